@@ -1,0 +1,5 @@
+pub mod Layers
+pub mod Pages
+pub mod Kept
+pub mod Piles
+pub mod Built
