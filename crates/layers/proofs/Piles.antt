@@ -74,7 +74,7 @@ pub shadow-stored : (page page′ : ℕ) (kept kept′ : ℕ → Option ℕ) (m 
 shadow-stored page page′ kept kept′ m x a b e n k = (λ i. shadow-meaning (n i) ((k ∙ ap (λ r. kept-after page kept r a b) e) i) m) ∙ shadow-after page kept m a b
 
 -- a store below a layer that passes it on, seen from above
-raised-stored : (w : Bool) (b : ℕ) (r : Result ℕ BusRefusal) → raised (cond w (Ok b) r) ≡ cond w (Ok b) (raised r)
+pub raised-stored : (w : Bool) (b : ℕ) (r : Result ℕ BusRefusal) → raised (cond w (Ok b) r) ≡ cond w (Ok b) (raised r)
 raised-stored true b r = refl
 raised-stored false b r = refl
 
@@ -86,7 +86,7 @@ guard-by : (w : Bool) (first last : ℕ) (p q : Layered) (a b : ℕ) → pile-me
 guard-by true first last p q a b h = refl
 guard-by false first last p q a b h = ap (guard-meaning first last) h ∙ guard-lift (pile-meaning p .takes a) first last (pile-meaning p) a b
 
-side-stored : (v w : Bool) (b : ℕ) (r s : Result ℕ BusRefusal) → (w ≡ true → v ≡ true) → raised (cond v (cond w (Ok b) r) s) ≡ cond w (Ok b) (raised (cond v r s))
+pub side-stored : (v w : Bool) (b : ℕ) (r s : Result ℕ BusRefusal) → (w ≡ true → v ≡ true) → raised (cond v (cond w (Ok b) r) s) ≡ cond w (Ok b) (raised (cond v r s))
 side-stored true true b r s h = refl
 side-stored true false b r s h = refl
 side-stored false false b r s h = refl

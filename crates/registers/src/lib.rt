@@ -1,0 +1,6 @@
+// The processor's own state: 64 byte registers, two pointers, eight status bits and the extend register E.
+mod cpu;
+mod status;
+
+pub use cpu::Cpu;
+pub use status::Status;
