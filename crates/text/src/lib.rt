@@ -4,7 +4,7 @@ ghost use mathlib.Core.Bool.{cond};
 ghost use Prim.Native.Nat.{ℕ, _+_, _-_, _*_, _/_, _%_, _^_, _<_, _≤_};
 ghost use lib.Dec.{leb};
 ghost use lib.ListN.{length, getD, set};
-ghost use Rattle.std.specs.Options.{isSome};
+ghost use Rattle.std.specs.Options.{isSome, Cases};
 ghost use Rattle.std.specs.declared.option.Option.the-variants.{Some, None};
 ghost use Rattle.std.specs.Written.{decimal};
 ghost use Rattle.bytes.specs.Rows.{over};
@@ -32,6 +32,7 @@ pub enum Piece {
 pub fn put(out: &mut [u8], pieces: &[Piece]) -> Option<usize>
     ensures answer { λ r. ⌜ r ≡ cond (leb (room (now (pieces .entry))) (length (now (out .entry)))) (Some (length (joined (now (pieces .entry))))) None ⌝ }
     ensures after { λ r. ⌜ now (out .exit) ≡ cond (isSome r) (over (now (out .entry)) 0 (joined (now (pieces .entry)))) (now (out .entry)) ⌝ }
+    ensures room { λ r. ⌜ Cases r (Unit {0}) (λ n. n ≤ room (now (pieces .entry))) ⌝ }
 {
     if !fits(out.len(), pieces) {
         return None;
@@ -73,6 +74,7 @@ fn put_all(out: &mut [u8], pieces: &[Piece]) -> usize
     requires { ⌜ room (now pieces) ≤ length (now out) ⌝ }
     ensures after { λ _. ⌜ now (out .exit) ≡ over (now (out .entry)) 0 (joined (now (pieces .entry))) ⌝ }
     ensures place { λ r. ⌜ r ≡ length (joined (now (pieces .entry))) ⌝ }
+    ensures room { λ r. ⌜ r ≤ room (now (pieces .entry)) ⌝ }
 {
     let mut at = 0;
     for piece in pieces {

@@ -21,4 +21,4 @@ loop-piece-again c =
 pub returns : need.returns
 returns c =
     let e = joined-all (c .args .pieces .now) (c .loop-piece .piece-index) (omega arith) in
-    record { after = sym (ap (over (c .loop-piece .out) (c .loop-piece .at)) e ∙ over-none (c .loop-piece .out) (c .loop-piece .at)) ∙ c .loop-piece .inv .0 .after; place = omega (arith, c .loop-piece .inv .0 .place, ap length e) }
+    record { after = sym (ap (over (c .loop-piece .out) (c .loop-piece .at)) e ∙ over-none (c .loop-piece .out) (c .loop-piece .at)) ∙ c .loop-piece .inv .0 .after; place = omega (arith, c .loop-piece .inv .0 .place, ap length e); room = omega (arith, c .loop-piece .inv .1) }
