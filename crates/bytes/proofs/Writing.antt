@@ -4,12 +4,12 @@ use mathlib.Core.List.{List, [], _∷_, _++_}
 use Prim.Native.Nat.{ℕ, zero, suc, _+_, _≤_, _<_}
 use native.Mathlib.Omega.{arith}
 use native.Mathlib.Nat.{add-zero}
-use lib.ListN.{length, getD, take, drop, set, length-set, length-append}
+use lib.ListN.{length, getD, take, drop, set, replicate, length-set, length-append}
 use lib.Seq.{sets, sets-eq, take-length}
 use borrow.Rule.Slice.PartMut.{putMid}
-use Rattle.std.proofs.shelf.Lists.{getD-set-same, getD-set-other}
+use Rattle.std.proofs.shelf.Lists.{getD-set-same, getD-set-other, take-at}
 use Rattle.std.proofs.shelf.Parts.{putMid-paste}
-use Rattle.bytes.specs.Rows.{over}
+use Rattle.bytes.specs.Rows.{over, zeros}
 
 pub over-none : (row : List ℕ) (i : ℕ) → over row i [] ≡ row
 unfolding over
@@ -63,3 +63,12 @@ pub getD-over-after : (row : List ℕ) (i : ℕ) (s : List ℕ) (x : ℕ) → i 
 unfolding over
 getD-over-after row i [] x h = refl
 getD-over-after row i (b ∷ s) x h = getD-over-after (set row i b) (suc i) s x (omega arith) ∙ getD-set-other row i x b 0 (omega arith)
+
+-- what stands at the front after a write there
+pub over-front : (row s : List ℕ) → length s ≤ length row → take (length s) (over row 0 s) ≡ s
+over-front row s h = ap (take (length s)) (over-sets row 0 s ∙ sets-eq s row 0 (omega arith)) ∙ take-at s (drop (0 + length s) row) (length s) refl
+
+-- zero bytes as code makes them
+pub is-zeros : (n : ℕ) (row : List ℕ) → row ≡ replicate n 0 → row ≡ zeros n
+unfolding zeros
+is-zeros n row e = e

@@ -33,7 +33,12 @@ impl LoadFault {
 
 impl Cold {
     // Loads all the bytes from the address on, or none.
-    pub fn load<M: Loadable>(&self, memory: &mut M, address: u16, bytes: &[u8]) -> Result<(), LoadFault>
+    pub fn load<M: Loadable>(
+        &self,
+        memory: &mut M,
+        address: u16,
+        bytes: &[u8],
+    ) -> Result<(), LoadFault>
         ensures answer { λ r. ⌜ r ≡ loadAnswer (M·Loadable .room) address (length (now (bytes .entry))) ⌝ }
         ensures after { λ _. ⌜ M·Bus .meaning (now (memory .exit)) ≡ loadAfter (M·Loadable .room) address (now (bytes .entry)) (M·Bus .meaning (now (memory .entry))) ⌝ }
     {

@@ -71,10 +71,7 @@ fn work_cold(
             Phase::InService(exchange.go(pc, return_pointer)),
             Ok(Event::Began),
         ),
-        Record::End => (
-            Phase::Refused,
-            Err(Refusal::Tape(TapeFault::OutOfTurn)),
-        ),
+        Record::End => (Phase::Refused, Err(Refusal::Tape(TapeFault::OutOfTurn))),
     }
 }
 
@@ -90,10 +87,7 @@ fn work_live(
 {
     match item {
         Record::End => (Phase::Ended, Ok(Event::Ended(exchange.end()))),
-        _ => (
-            Phase::Refused,
-            Err(Refusal::Tape(TapeFault::OutOfTurn)),
-        ),
+        _ => (Phase::Refused, Err(Refusal::Tape(TapeFault::OutOfTurn))),
     }
 }
 
@@ -110,13 +104,7 @@ pub fn work(
     match phase {
         Phase::Loading(exchange) => work_cold(exchange, item, memory, sheet),
         Phase::InService(exchange) => work_live(exchange, item, memory, sheet),
-        Phase::Ended => (
-            Phase::Refused,
-            Err(Refusal::Tape(TapeFault::OutOfTurn)),
-        ),
-        Phase::Refused => (
-            Phase::Refused,
-            Err(Refusal::Tape(TapeFault::OutOfTurn)),
-        ),
+        Phase::Ended => (Phase::Refused, Err(Refusal::Tape(TapeFault::OutOfTurn))),
+        Phase::Refused => (Phase::Refused, Err(Refusal::Tape(TapeFault::OutOfTurn))),
     }
 }

@@ -1,16 +1,11 @@
 use mathlib.Core.Path.{_≡_, ap, _∙_}
-use mathlib.Core.List.{List, map}
-use Prim.Native.Nat.{ℕ}
+use mathlib.Core.List.{map}
 use native.Mathlib.Omega.{arith}
 use lib.ListN.{replicate}
-use Rattle.bytes.specs.Rows.{zeros}
+use Rattle.bytes.proofs.Writing.{is-zeros}
 use Rattle.bus.specs.Kinds.{ram-meaning, bytes-meaning, trunkByte}
 use Rattle.layers.specs.Layers.{split-meaning, guard-meaning}
 use Rattle.memory.proofs.memory.Memory.new.Needs as need
-
-is-zeros : (n : ℕ) (bs : List ℕ) → bs ≡ replicate n 0 → bs ≡ zeros n
-unfolding zeros
-is-zeros n bs e = e
 
 pub returns : need.returns
 returns c =
