@@ -1,3 +1,3 @@
 pub mod Pages
-pub mod Piles
+pub mod Stores
 pub mod Loads

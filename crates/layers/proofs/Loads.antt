@@ -10,7 +10,7 @@ use Rattle.std.proofs.shelf.Ways.{tells}
 use Rattle.bus.specs.Meaning.{Meaning, among, loaded}
 use Rattle.bus.proofs.Equal.{same-meaning}
 use Rattle.layers.specs.Layers.{guard-meaning, split-meaning}
-use Rattle.layers.proofs.Piles.{raised-stored, side-stored}
+use Rattle.layers.proofs.Stores.{raised-stored, side-stored}
 
 pub guard-loaded : (first last : ℕ) (m : Meaning) (a : ℕ) (s : List ℕ) → guard-meaning first last (loaded m a s) ≡ loaded (guard-meaning first last m) a s
 guard-loaded first last m a s = same-meaning _ _ (λ x. raised-stored (among a (length s) x) (getD s (x - a) 0) (m .reads x)) (λ x. refl)

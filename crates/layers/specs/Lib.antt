@@ -1,5 +1,3 @@
 pub mod Layers
 pub mod Pages
 pub mod Kept
-pub mod Piles
-pub mod Built

@@ -108,7 +108,7 @@ impl<'a> Player<'a> {
         ensures wrote { λ r. ⌜ r .wrote ≡ length (linesOf (r .outcome)) ⌝ }
         ensures room { λ r. ⌜ r .wrote ≤ 512 ⌝ }
     {
-        let offset = self.reader.place();
+        let offset = self.reader.place;
         if out.len() < 512 {
             let refusal = Refusal::Buffer;
             let outcome = Err(PlayFault { offset, refusal });

@@ -14,7 +14,7 @@ use crate::record::record_at;
 #[derive(Drop)]
 pub struct Reader<'a> {
     tape: &'a [u8],
-    place: usize,
+    pub place: usize,
     ghost within: { place ≤ length (now tape) },
 }
 
@@ -24,12 +24,6 @@ impl<'a> Reader<'a> {
         ensures place { λ r. ⌜ r .place ≡ 0 ⌝ }
     {
         Reader { tape, place: 0 }
-    }
-
-    pub fn place(&self) -> usize
-        ensures { λ r. ⌜ r ≡ now (self .entry) .place ⌝ }
-    {
-        self.place
     }
 
     // Whether nothing is left.

@@ -1,6 +1,6 @@
 use borrow.Author.Needs.{needs}
 use Rattle.layers.specs.Pages.{keptOf}
-use Rattle.layers.proofs.Piles.{shadow-stored}
+use Rattle.layers.proofs.Stores.{shadow-stored}
 use Rattle.layers.proofs.shadow.ShadowBus.store.Needs as need
 
 pub returns : need.returns

@@ -1,7 +1,7 @@
 -- Every pile is a bus, however high. By induction on its layers.
-use mathlib.Core.Path.{_≡_, refl, sym, ap, _∙_, fun-ext}
+use mathlib.Core.Path.{_≡_, refl, ap, _∙_}
 use mathlib.Core.Bool.{Bool, true, false, cond}
-use Prim.Native.Nat.{ℕ, suc, _+_, _/_, _%_, _≤_, min}
+use Prim.Native.Nat.{ℕ, suc, _+_, _≤_, min}
 use native.Mathlib.Omega.{arith}
 use lib.Dec.{eqb, ltb}
 use Rattle.std.proofs.shelf.Ways.{tells}
@@ -12,10 +12,11 @@ use Rattle.std.specs.declared.result.Result.the-variants.{Ok, Err}
 use Rattle.bus.specs.declared.refusal.BusRefusal.{BusRefusal}
 use Rattle.bus.specs.declared.refusal.Cause.the-variants.{Guarded, OutsideShadow}
 use Rattle.bus.specs.Meaning.{Meaning, here, raised, stored, after, if-ok}
-use Rattle.bus.specs.Rules.{Rules, depthOf}
+use Rattle.bus.specs.Rules.{depthOf}
 use Rattle.bus.proofs.Equal.{same-meaning}
-use Rattle.layers.specs.Layers.{guarded, in-page, kept-or, kept-at, kept-also, kept-after, shadow-takes, if-readable, guard-meaning, split-meaning, shadow-meaning}
-use Rattle.layers.specs.Piles.{Layered, bottom, guard, split, shadow, pile-meaning, pile-rules, put, Answers, Judges, from-below, Pile-laws}
+use Rattle.layers.specs.Layers.{guarded, in-page, kept-at, if-readable, guard-meaning, split-meaning}
+use Rattle.layers.proofs.Stores.{shadow-after, raised-stored, side-stored}
+use Rattle.piles.specs.Piles.{Layered, bottom, guard, split, shadow, pile-meaning, pile-rules, put, Answers, Judges, from-below, Pile-laws}
 
 -- an answer from n + 1 layers down
 raised-from : {X : Type 0} (n : ℕ) (x : Result X BusRefusal) → raised (from-below n x) ≡ from-below (suc n) x
@@ -54,30 +55,6 @@ takes-law a p n x (Judges.under-guard first last {p = q} {n = m} g h) = rw g (on
 takes-law a p n x (Judges.under-split-low at q {p = r} {n = m} w h) = rw w (one-up m x _ (takes-law a r m x h))
 takes-law a p n x (Judges.under-split-high at r {q = q} {n = m} w h) = rw w (one-up m x _ (takes-law a q m x h))
 
--- a read that a store by a shadow came before
-shadow-reads : (page : ℕ) (kept : ℕ → Option ℕ) (a b x : ℕ) (r : Result ℕ BusRefusal) → in-page page a ≡ true → kept-or (kept-at page (kept-also kept (a % 256) b) x) r ≡ cond (eqb x a) (Ok b) (kept-or (kept-at page kept x) r)
-shadow-reads page kept a b x r h = grind (arith, tells)
-
-taken-in-page : (w : Bool) (r : Result (Unit {0}) BusRefusal) → cond w r (Err (here OutsideShadow)) ≡ Ok tt → w ≡ true
-taken-in-page true r e = refl
-taken-in-page false r e = let z : _≡_ {A = ℕ} 0 1 = cc in absurd (omega arith)
-
-after-by : (t : Result (Unit {0}) BusRefusal) (page : ℕ) (kept : ℕ → Option ℕ) (m : Meaning) (a b : ℕ) → shadow-takes page (m .reads a) a ≡ t → shadow-meaning page (if-ok t (kept-also kept (a % 256) b) kept) m ≡ if-ok t (stored (shadow-meaning page kept m) a b) (shadow-meaning page kept m)
-after-by (Err r) page kept m a b e = refl
-after-by (Ok x) page kept m a b e = same-meaning _ _ (λ y. shadow-reads page kept a b y (raised (m .reads y)) (taken-in-page (in-page page a) _ e)) (λ y. refl)
-
--- what a shadow keeps after a store means what a store leaves of a bus
-pub shadow-after : (page : ℕ) (kept : ℕ → Option ℕ) (m : Meaning) (a b : ℕ) → shadow-meaning page (kept-after page kept (m .reads a) a b) m ≡ after (shadow-meaning page kept m) a b
-shadow-after page kept m a b = after-by (shadow-takes page (m .reads a) a) page kept m a b refl
-
-pub shadow-stored : (page page′ : ℕ) (kept kept′ : ℕ → Option ℕ) (m : Meaning) (x : Result ℕ BusRefusal) (a b : ℕ) → x ≡ m .reads a → page′ ≡ page → kept′ ≡ kept-after page kept x a b → shadow-meaning page′ kept′ m ≡ after (shadow-meaning page kept m) a b
-shadow-stored page page′ kept kept′ m x a b e n k = (λ i. shadow-meaning (n i) ((k ∙ ap (λ r. kept-after page kept r a b) e) i) m) ∙ shadow-after page kept m a b
-
--- a store below a layer that passes it on, seen from above
-pub raised-stored : (w : Bool) (b : ℕ) (r : Result ℕ BusRefusal) → raised (cond w (Ok b) r) ≡ cond w (Ok b) (raised r)
-raised-stored true b r = refl
-raised-stored false b r = refl
-
 guard-lift : (t : Result (Unit {0}) BusRefusal) (first last : ℕ) (m : Meaning) (a b : ℕ) → guard-meaning first last (if-ok t (stored m a b) m) ≡ if-ok (raised t) (stored (guard-meaning first last m) a b) (guard-meaning first last m)
 guard-lift (Err r) first last m a b = refl
 guard-lift (Ok x) first last m a b = same-meaning _ _ (λ y. raised-stored (eqb y a) b (m .reads y)) (λ y. refl)
@@ -85,12 +62,6 @@ guard-lift (Ok x) first last m a b = same-meaning _ _ (λ y. raised-stored (eqb 
 guard-by : (w : Bool) (first last : ℕ) (p q : Layered) (a b : ℕ) → pile-meaning q ≡ after (pile-meaning p) a b → pile-meaning (guard first last (cond w p q)) ≡ if-ok (cond w (Err (here Guarded)) (raised (pile-meaning p .takes a))) (stored (guard-meaning first last (pile-meaning p)) a b) (guard-meaning first last (pile-meaning p))
 guard-by true first last p q a b h = refl
 guard-by false first last p q a b h = ap (guard-meaning first last) h ∙ guard-lift (pile-meaning p .takes a) first last (pile-meaning p) a b
-
-pub side-stored : (v w : Bool) (b : ℕ) (r s : Result ℕ BusRefusal) → (w ≡ true → v ≡ true) → raised (cond v (cond w (Ok b) r) s) ≡ cond w (Ok b) (raised (cond v r s))
-side-stored true true b r s h = refl
-side-stored true false b r s h = refl
-side-stored false false b r s h = refl
-side-stored false true b r s h = let z : _≡_ {A = ℕ} 0 1 = cc (h refl) in absurd (omega arith)
 
 other-stored : (v w : Bool) (b : ℕ) (r s : Result ℕ BusRefusal) → (w ≡ true → v ≡ false) → raised (cond v r (cond w (Ok b) s)) ≡ cond w (Ok b) (raised (cond v r s))
 other-stored false true b r s h = refl

@@ -4,14 +4,14 @@ ghost use Rattle.std.specs.declared.option.Option.the-variants.{None};
 ghost use Rattle.std.specs.Of.Box.{box-value};
 ghost use Rattle.std.specs.Vec.{made};
 ghost use Rattle.bus.specs.Meaning.{after};
-ghost use Rattle.layers.specs.Built.{built, outline, Outline};
-ghost use Rattle.layers.specs.Piles.{pile-meaning, pile-rules, bottom, guard, split, shadow, Piles-are-buses};
-use crate::guard::locks;
-use crate::page::Page;
+ghost use Rattle.piles.specs.Built.{built, outline, Outline};
+ghost use Rattle.piles.specs.Piles.{pile-meaning, pile-rules, bottom, guard, split, shadow, Piles-are-buses};
 use bus::Bus;
 use bus::BusRefusal;
 use bus::Cause;
 use bus::raise;
+use layers::Page;
+use layers::locks;
 use std::alloc::AllocError;
 use std::alloc::Global;
 

@@ -1,11 +1,11 @@
 use mathlib.Core.Path.{sym, ap, _∙_}
 use borrow.Author.Needs.{needs}
 use Rattle.bus.specs.Meaning.{after}
 use Rattle.layers.specs.Pages.{keptOf}
-use Rattle.layers.specs.Built.{built}
-use Rattle.layers.specs.Piles.{pile-meaning}
-use Rattle.layers.proofs.Piles.{shadow-stored}
-use Rattle.layers.proofs.pile.+store_pile.Needs as need
+use Rattle.piles.specs.Built.{built}
+use Rattle.piles.specs.Piles.{pile-meaning}
+use Rattle.layers.proofs.Stores.{shadow-stored}
+use Rattle.piles.proofs.pile.+store_pile.Needs as need
 
 pub returns-in-Shadow : need.returns-in-Shadow
 returns-in-Shadow g t c =

@@ -2,11 +2,11 @@
 use Prim.Native.Nat.{ℕ}
 use Rattle.bus.specs.Meaning.{Meaning}
 use Rattle.bus.specs.Rules.{Rules}
 use Rattle.layers.specs.Pages.{keptOf}
-use Rattle.layers.specs.Piles.{Layered}
-use Rattle.layers.specs.Piles as piles
-use Rattle.layers.specs.declared.pile.Pile.{Pile}
-use Rattle.layers.specs.declared.pile.Pile.the-variants.{Bottom, Guard′, Split′, Shadow′}
+use Rattle.piles.specs.Piles.{Layered}
+use Rattle.piles.specs.Piles as piles
+use Rattle.piles.specs.declared.pile.Pile.{Pile}
+use Rattle.piles.specs.declared.pile.Pile.the-variants.{Bottom, Guard′, Split′, Shadow′}
 
 abbrev pub built : {B : Type 0} (mean : B → Meaning) → ((b : B) → Rules (mean b)) → Pile B → Layered
 built mean rules (Bottom b) = piles.bottom (mean b) (rules b)

@@ -1,0 +1,7 @@
+// Buses and piles by example.
+#[cfg(test)]
+mod depths;
+#[cfg(test)]
+mod ends;
+#[cfg(test)]
+mod three_high;
