@@ -20,7 +20,7 @@ fn refused(cause: Cause, depth: u8) -> BusRefusal {
     BusRefusal { cause, depth }
 }
 
-// Page 1 of 1,024 RAM bytes is shadowed; from 1,024 on there is ROM; 256 to 260 is locked.
+// 300 bytes of RAM, of which those from 256 on are shadowed; from 1,024 on ROM; 256 to 260 locked.
 fn pile(rt: &LibcRuntime) -> Result<Guard<Split<Shadow<Ram>, Rom<'static>>>, Fail> {
     let bytes = vec![in rt.alloc(); 9u8; 300]?;
     let low = Shadow::new(1, Ram { base: 0, bytes });
