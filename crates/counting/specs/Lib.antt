@@ -1,0 +1,4 @@
+pub mod System
+pub mod Chain
+pub mod Binary
+pub mod Decimal
