@@ -12,7 +12,7 @@ use Rattle.counting.specs.declared.Link.{Link}
 use Rattle.counting.specs.System.{System}
 use Rattle.counting.specs.Chain.{linked, first, others, rowOf, carryOf, firstRefused}
 
-first-drop : (ys : List ℕ) (i : ℕ) → first (drop i ys) ≡ getD ys i 0
+pub first-drop : (ys : List ℕ) (i : ℕ) → first (drop i ys) ≡ getD ys i 0
 first-drop [] zero = refl
 first-drop [] (suc i) = refl
 first-drop (y ∷ ys) zero = refl
@@ -23,6 +23,9 @@ others-drop [] zero = refl
 others-drop [] (suc i) = refl
 others-drop (y ∷ ys) zero = refl
 others-drop (y ∷ ys) (suc i) = others-drop ys i
+
+pub others-more : (ys : List ℕ) (i : ℕ) → others (drop i ys) ≡ drop (i + 1) ys
+others-more ys i = others-drop ys i ∙ ap (λ n. drop n ys) (sym (add-one i))
 
 -- the first i bytes are done, and what is left comes to what there was
 pub record Linking (s : System) (l : Link) (old ys : List ℕ) (c₀ : Bool) (xs : List ℕ) (i : ℕ) (c : Bool) : Type 0 where
@@ -37,13 +40,10 @@ module _ (s : System) (l : Link) where
     linked-here : (y : ℕ) (d : Bool) (b : ℕ) → b ≡ getD ys i 0 → _≡_ {A = ℕ × Bool} (y, d) (linked s l (getD xs i 0) b c) → linked s l (getD xs i 0) (first (drop i ys)) c ≡ (y, d)
     linked-here y d b e q = ap (λ n. linked s l (getD xs i 0) n c) (first-drop ys i ∙ sym e) ∙ sym q
 
-    others-here : others (drop i ys) ≡ drop (i + 1) ys
-    others-here = others-drop ys i ∙ ap (λ n. drop n ys) (sym (add-one i))
-
     pub linking-more : (y : ℕ) (d : Bool) (b : ℕ) → i < length xs → b ≡ getD ys i 0 → _≡_ {A = ℕ × Bool} (y, d) (linked s l (getD xs i 0) b c) → Linking s l old ys c₀ xs i c → Linking s l old ys c₀ (set xs i y) (i + 1) d
     linking-more y d b h e q f =
         let k = linked-here y d b e q in
-        let o = others-here in
+        let o = others-more ys i in
         let p = drop-more xs i 0 h in
         let r = drop-set-lt (i + 1) xs i y (omega arith) in
         let row : rowOf s l (drop i xs) (drop i ys) c ≡ y ∷ rowOf s l (drop (i + 1) xs) (drop (i + 1) ys) d = ap (λ t. rowOf s l t (drop i ys) c) p ∙ (λ z. k z .0 ∷ rowOf s l (drop (i + 1) xs) (o z) (k z .1)) in

@@ -34,11 +34,11 @@ module _ (s : System) (w : Laws s) where
   zero-value : s .value 0 ≡ 0
   zero-value = ap (s .value) (sym (w .zero-byte)) ∙ w .byte-value 0 (omega (arith, w .two-values))
 
-  first-lawful : (ys : List ℕ) → Lawful s ys → s .lawful (first ys) ≡ true
+  pub first-lawful : (ys : List ℕ) → Lawful s ys → s .lawful (first ys) ≡ true
   first-lawful [] h = zero-lawful
   first-lawful (y ∷ ys) h = h .0
 
-  others-lawful : (ys : List ℕ) → Lawful s ys → Lawful s (others ys)
+  pub others-lawful : (ys : List ℕ) → Lawful s ys → Lawful s (others ys)
   others-lawful [] h = tt
   others-lawful (y ∷ ys) h = h .1
 
@@ -69,28 +69,28 @@ module _ (s : System) (w : Laws s) where
   link-lawful Negate a b c p q = w .minus-lawful 0 a c zero-lawful p
   link-lawful Complement a b c p q = w .rest-lawful a p
 
-  row-lawful : (l : Link) (xs ys : List ℕ) (c : Bool) → Lawful s xs → Lawful s ys → Lawful s (rowOf s l xs ys c)
+  pub row-lawful : (l : Link) (xs ys : List ℕ) (c : Bool) → Lawful s xs → Lawful s ys → Lawful s (rowOf s l xs ys c)
   row-lawful l [] ys c h k = tt
   row-lawful l (x ∷ xs) ys c (here, rest) k = (link-lawful l x (first ys) c here (first-lawful ys k), row-lawful l xs (others ys) (linked s l x (first ys) c .1) rest (others-lawful ys k))
 
-  row-length : (l : Link) (xs ys : List ℕ) (c : Bool) → length (rowOf s l xs ys c) ≡ length xs
+  pub row-length : (l : Link) (xs ys : List ℕ) (c : Bool) → length (rowOf s l xs ys c) ≡ length xs
   row-length l [] ys c = refl
   row-length l (x ∷ xs) ys c = ap suc (row-length l xs (others ys) (linked s l x (first ys) c .1))
 
   -- the equations that a chain keeps
-  sum : (xs ys : List ℕ) (c : Bool) → Lawful s xs → Lawful s ys → length ys ≤ length xs → number s (rowOf s Add xs ys c) + s .base ^ length xs * bit (carryOf s Add xs ys c) ≡ number s xs + number s ys + bit c
+  pub sum : (xs ys : List ℕ) (c : Bool) → Lawful s xs → Lawful s ys → length ys ≤ length xs → number s (rowOf s Add xs ys c) + s .base ^ length xs * bit (carryOf s Add xs ys c) ≡ number s xs + number s ys + bit c
   sum [] ys c h k l = simp (pow-zero, one-mul) (omega (arith, none-left ys l))
   sum (x ∷ xs) ys c (here, rest) k l =
       rw (pow-suc, number-first ys)
       (add-step (s .base) (s .base ^ length xs) _ _ _ _ _ _ (bit c) (bit (s .plus x (first ys) c .1)) _ (w .plus-value x (first ys) c here (first-lawful ys k)) (sum xs (others ys) (s .plus x (first ys) c .1) rest (others-lawful ys k) (others-short (length xs) ys l)))
 
-  difference : (xs ys : List ℕ) (c : Bool) → Lawful s xs → Lawful s ys → length ys ≤ length xs → number s (rowOf s Subtract xs ys c) + number s ys + bit c ≡ number s xs + s .base ^ length xs * bit (carryOf s Subtract xs ys c)
+  pub difference : (xs ys : List ℕ) (c : Bool) → Lawful s xs → Lawful s ys → length ys ≤ length xs → number s (rowOf s Subtract xs ys c) + number s ys + bit c ≡ number s xs + s .base ^ length xs * bit (carryOf s Subtract xs ys c)
   difference [] ys c h k l = simp (pow-zero, one-mul) (omega (arith, none-left ys l))
   difference (x ∷ xs) ys c (here, rest) k l =
       rw (pow-suc, number-first ys)
       (subtract-step (s .base) (s .base ^ length xs) _ _ _ _ _ _ (bit c) (bit (s .minus x (first ys) c .1)) _ (w .minus-value x (first ys) c here (first-lawful ys k)) (difference xs (others ys) (s .minus x (first ys) c .1) rest (others-lawful ys k) (others-short (length xs) ys l)))
 
-  negation : (xs ys : List ℕ) (c : Bool) → Lawful s xs → number s (rowOf s Negate xs ys c) + number s xs + bit c ≡ s .base ^ length xs * bit (carryOf s Negate xs ys c)
+  pub negation : (xs ys : List ℕ) (c : Bool) → Lawful s xs → number s (rowOf s Negate xs ys c) + number s xs + bit c ≡ s .base ^ length xs * bit (carryOf s Negate xs ys c)
   negation [] ys c h = simp (pow-zero, one-mul) (omega arith)
   negation (x ∷ xs) ys c (here, rest) =
       rw pow-suc

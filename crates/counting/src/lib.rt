@@ -55,7 +55,7 @@ fn link_bytes<C: Counting>(op: Link, a: u8, b: u8, carry: bool) -> (u8, bool)
 }
 
 // The byte at a place, and 0 past the end.
-fn byte_at(row: &[u8], i: usize) -> u8
+pub fn byte_at(row: &[u8], i: usize) -> u8
     ensures { λ r. ⌜ r ≡ getD (now (row .entry)) i 0 ⌝ }
 {
     if i < row.len() { row[i] } else { 0 }

@@ -1,0 +1,6 @@
+pub mod Shifts
+pub mod Logic
+pub mod Seen
+pub mod Signed
+pub mod Sums
+pub mod Operations
