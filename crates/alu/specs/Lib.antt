@@ -4,3 +4,4 @@ pub mod Seen
 pub mod Signed
 pub mod Sums
 pub mod Operations
+pub mod Examples

@@ -1,10 +1,12 @@
 // What the processor works out on rows of bytes, low byte first.
+mod examples;
 mod logic;
 mod operations;
 mod shift;
 mod status;
 mod sums;
 
+pub use examples::worked_examples;
 pub use logic::Logic;
 pub use logic::join;
 pub use operations::Operation;
