@@ -1,5 +1,6 @@
 // Rows of one to eight bytes, as numbers in a u128.
 use alu::Operation;
+use alu::Worked;
 use alu::operate;
 use registers::Status;
 use std::test::*;
@@ -90,7 +91,7 @@ fn power(base: u128, n: usize) -> u128 {
     p
 }
 
-// One operation: the row as a number in base 100 or 256, the carry, and E.
+// One operation: the row as a number in base 100 or 256, and what was told of it.
 fn work(
     op: Operation,
     before: Status,
@@ -98,9 +99,9 @@ fn work(
     row: &mut [u8],
     operand: &[u8],
     hundreds: bool,
-) -> Result<(u128, bool, u8), Fail> {
+) -> Result<(u128, Worked), Fail> {
     match operate(op, before, e, row, operand) {
-        Ok(worked) => Ok((value(row, hundreds), worked.status.cy, worked.e)),
+        Ok(worked) => Ok((value(row, hundreds), worked)),
         Err(_) => Err(Fail::new("a byte was not accepted")),
     }
 }
@@ -110,7 +111,7 @@ fn result(
     decimal: bool,
     hundreds: bool,
     case: &Case,
-) -> Result<(u128, bool, u8), Fail> {
+) -> Result<(u128, Worked), Fail> {
     let mut row = case.data;
     let n = case.span.min(8);
     work(
@@ -123,36 +124,65 @@ fn result(
     )
 }
 
+// The number that a stands for as a signed one of `whole` numbers, with `whole` added.
+fn raised(a: u128, whole: u128) -> u128 {
+    if a < whole / 2 {
+        a.wrapping_add(whole)
+    } else {
+        a
+    }
+}
+
+// Whether the sum of two raised numbers stands for a signed one that does not fit.
+fn unfit(sum: u128, whole: u128) -> bool {
+    let low = whole.wrapping_mul(2).wrapping_sub(whole / 2);
+    sum < low || sum >= low.wrapping_add(whole)
+}
+
 fn sums(decimal: bool, case: &Case) -> Result<(), Fail> {
     let n = case.span.min(8);
     let whole = power(if decimal { 100 } else { 256 }, n);
     let a = value(&case.data[0..n], decimal);
     let b = value(&case.operand[0..n], decimal);
-    let (sum, carry, _) = result(Operation::Add, decimal, decimal, case)?;
-    check_eq(
-        sum.wrapping_add(if carry { whole } else { 0 }),
-        a.wrapping_add(b),
-    )?;
-    let (difference, no_borrow, _) = result(Operation::Subtract, decimal, decimal, case)?;
-    check_eq(
-        difference.wrapping_add(b),
-        a.wrapping_add(if no_borrow { 0 } else { whole }),
-    )?;
-    let (more, carry, _) = result(Operation::Increment, decimal, decimal, case)?;
-    check_eq(
-        more.wrapping_add(if carry { whole } else { 0 }),
-        a.wrapping_add(1),
-    )?;
-    let (less, no_borrow, _) = result(Operation::Decrement, decimal, decimal, case)?;
-    check_eq(
-        less.wrapping_add(1),
-        a.wrapping_add(if no_borrow { 0 } else { whole }),
-    )?;
-    let (negated, no_borrow, _) = result(Operation::Negate, decimal, decimal, case)?;
-    check_eq(negated.wrapping_add(a), if no_borrow { 0 } else { whole })?;
-    let (rest, carry, _) = result(Operation::Complement, decimal, decimal, case)?;
-    check_eq(carry, false)?;
+    let (sum, told) = result(Operation::Add, decimal, decimal, case)?;
+    let carried = if told.status.cy { whole } else { 0 };
+    check_eq(sum.wrapping_add(carried), a.wrapping_add(b))?;
+    let overflow = unfit(raised(a, whole).wrapping_add(raised(b, whole)), whole);
+    check_eq(told.status.ovf, !decimal && overflow)?;
+    let (difference, told) = result(Operation::Subtract, decimal, decimal, case)?;
+    let borrowed = if told.status.cy { 0 } else { whole };
+    check_eq(difference.wrapping_add(b), a.wrapping_add(borrowed))?;
+    let less = raised(a, whole)
+        .wrapping_add(whole.wrapping_mul(2))
+        .wrapping_sub(raised(b, whole));
+    check_eq(told.status.ovf, !decimal && unfit(less, whole))
+}
+
+fn counts(decimal: bool, case: &Case) -> Result<(), Fail> {
+    let n = case.span.min(8);
+    let whole = power(if decimal { 100 } else { 256 }, n);
+    let a = value(&case.data[0..n], decimal);
+    let (more, told) = result(Operation::Increment, decimal, decimal, case)?;
+    let carried = if told.status.cy { whole } else { 0 };
+    check_eq(more.wrapping_add(carried), a.wrapping_add(1))?;
+    let (less, told) = result(Operation::Decrement, decimal, decimal, case)?;
+    let borrowed = if told.status.cy { 0 } else { whole };
+    check_eq(less.wrapping_add(1), a.wrapping_add(borrowed))?;
+    let (negated, told) = result(Operation::Negate, decimal, decimal, case)?;
+    let borrowed = if told.status.cy { 0 } else { whole };
+    check_eq(negated.wrapping_add(a), borrowed)?;
+    let (rest, told) = result(Operation::Complement, decimal, decimal, case)?;
+    check_eq(told.status.cy, false)?;
     check_eq(rest.wrapping_add(a).wrapping_add(1), whole)
+}
+
+// The digit or bit that a shift lost.
+fn lost(decimal: bool, told: Worked) -> u128 {
+    if decimal {
+        u128::from(told.e)
+    } else {
+        u128::from(told.status.cy)
+    }
 }
 
 fn shifts(decimal: bool, case: &Case) -> Result<(), Fail> {
@@ -160,23 +190,14 @@ fn shifts(decimal: bool, case: &Case) -> Result<(), Fail> {
     let whole = power(256, n);
     let radix = if decimal { 16 } else { 2 };
     let a = value(&case.data[0..n], false);
-    let (up, carry, e) = result(Operation::LogicalLeft, decimal, false, case)?;
-    let lost = if decimal {
-        u128::from(e)
-    } else {
-        u128::from(carry)
-    };
+    let (up, told) = result(Operation::LogicalLeft, decimal, false, case)?;
+    let out = whole.wrapping_mul(lost(decimal, told));
+    check_eq(up.wrapping_add(out), a.wrapping_mul(radix))?;
+    let (down, told) = result(Operation::LogicalRight, decimal, false, case)?;
     check_eq(
-        up.wrapping_add(whole.wrapping_mul(lost)),
-        a.wrapping_mul(radix),
-    )?;
-    let (down, carry, e) = result(Operation::LogicalRight, decimal, false, case)?;
-    let lost = if decimal {
-        u128::from(e)
-    } else {
-        u128::from(carry)
-    };
-    check_eq(down.wrapping_mul(radix).wrapping_add(lost), a)
+        down.wrapping_mul(radix).wrapping_add(lost(decimal, told)),
+        a,
+    )
 }
 
 fn table(decimal: bool) -> Result<(), Fail> {
@@ -184,6 +205,7 @@ fn table(decimal: bool) -> Result<(), Fail> {
     for _ in 0..CASES {
         let case = make_case(seed, decimal);
         sums(decimal, &case)?;
+        counts(decimal, &case)?;
         shifts(decimal, &case)?;
         seed = case.seed;
     }
