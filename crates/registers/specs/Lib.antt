@@ -1,3 +1,4 @@
 pub mod Bits
 pub mod State
 pub mod Model
+pub mod Rows

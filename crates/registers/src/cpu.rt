@@ -2,6 +2,7 @@
 ghost use Prim.Native.Nat.{_<_};
 use crate::status::Status;
 
+pub mod rows;
 pub mod start;
 
 // Registers 4 and 5 are the program counter, 6 and 7 the return pointer, each a pair with its low byte first.

@@ -3,4 +3,5 @@ mod cpu;
 mod status;
 
 pub use cpu::Cpu;
+pub use cpu::rows::span;
 pub use status::Status;
