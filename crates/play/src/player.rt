@@ -22,6 +22,12 @@ use memory::Memory;
 use tape::Reader;
 use tape::Record;
 
+// The least size of a line buffer.
+const BUFFER_SIZE: usize = 512;
+
+// The size of a sheet.
+const SHEET_SIZE: usize = 8192;
+
 #[derive(Drop)]
 pub struct Player<'a> {
     reader: Reader<'a>,
@@ -58,7 +64,7 @@ impl<'a> Player<'a> {
         ensures entry { λ r. ⌜ entryIn r ≡ nextOf (tapeOf (now (self .entry))) (stageOf (now (self .entry) .phase)) (now (sheet .entry)) (now (self .entry) .reader .place) ⌝ }
         ensures within { λ r. ⌜ made r (λ x. now (self .entry) .reader .place + sizeOf (entryOf x) ≤ length (tapeOf (now (self .entry)))) ⌝ }
     {
-        if sheet.len() != 8192 {
+        if sheet.len() != SHEET_SIZE {
             return Err(Refusal::Sheet);
         }
         let item = self.reader.peek(self.phase.turn())?;
@@ -109,7 +115,7 @@ impl<'a> Player<'a> {
         ensures room { λ r. ⌜ r .wrote ≤ 512 ⌝ }
     {
         let offset = self.reader.place;
-        if out.len() < 512 {
+        if out.len() < BUFFER_SIZE {
             let refusal = Refusal::Buffer;
             let outcome = Err(PlayFault { offset, refusal });
             return Played { wrote: 0, outcome };
