@@ -1,11 +1,11 @@
 -- Logic over a row, turn by turn.
-use mathlib.Core.Path.{_≡_, refl, sym, ap, _∙_}
+use mathlib.Core.Path.{_≡_, sym, ap, _∙_}
 use mathlib.Core.List.{List, [], _∷_, _++_, append-assoc, append-nil}
 use Prim.Native.Nat.{ℕ, _+_, _≤_, _<_}
 use native.Mathlib.Omega.{arith}
 use lib.ListN.{length, getD, set, take, drop}
 use Rattle.std.proofs.shelf.Lists.{take-more-set, drop-set-lt, drop-more, drop-all, take-all}
-use Rattle.counting.specs.Chain.{first, others}
+use Rattle.counting.specs.Chain.{first}
 use Rattle.counting.proofs.Loop.{first-drop, others-more}
 use Rattle.alu.specs.declared.logic.Logic.{Logic}
 use Rattle.alu.specs.Logic.{joint, joinedRow}

@@ -7,7 +7,6 @@ use Rattle.std.specs.declared.result.Result.{Result}
 use Rattle.std.specs.declared.result.Result.the-variants.{Ok}
 use Rattle.registers.specs.declared.status.Status.{Status}
 use Rattle.registers.specs.Bits.{clear}
-use Rattle.alu.specs.declared.operations.Operation.{Operation}
 use Rattle.alu.specs.declared.operations.Operation.the-variants.{ExtendedLeft, LogicalLeft, Increment, Add, Subtract}
 use Rattle.alu.specs.Operations.{Done, operated}
 

@@ -1,7 +1,7 @@
 // The processor's operations on a row and an operand.
 ghost use mathlib.Core.Path.{_≡_};
 ghost use mathlib.Core.Bool.{true, false};
-ghost use mathlib.Core.List.{[], _∷_};
+ghost use mathlib.Core.List.{[]};
 ghost use Rattle.std.specs.declared.result.Result.the-variants.{Ok};
 ghost use Rattle.counting.specs.Chain.{rowOf};
 ghost use Rattle.counting.specs.declared.Link.the-variants.{Complement as NineLess};

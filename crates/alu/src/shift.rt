@@ -1,6 +1,6 @@
 // Shifts of a row by one bit or one digit.
 ghost use mathlib.Core.Path.{_≡_};
-ghost use Prim.Native.Nat.{ℕ, _+_, _*_, _%_, _^_, _<_};
+ghost use Prim.Native.Nat.{_+_, _*_, _%_, _^_, _<_};
 ghost use lib.ListN.{length};
 ghost use Rattle.counting.specs.Binary.{binary};
 ghost use Rattle.counting.specs.System.{number};

@@ -1,5 +1,4 @@
 // Bytes that are read and not stored, lent by whoever owns them.
-ghost use mathlib.Core.Path.{_≡_};
 ghost use mathlib.Core.List.{List};
 ghost use Prim.Native.Nat.{ℕ};
 ghost use denote.Ref.{now};

@@ -1,6 +1,5 @@
 // A trunk of the line board: an outside line.
 ghost use mathlib.Core.Path.{_≡_};
-ghost use mathlib.Core.Bool.{true};
 ghost use Prim.Native.Nat.{_≤_, _+_, _*_, _/_, _%_};
 ghost use lib.Dec.{leb};
 ghost use mathlib.Core.Bool.{_&&_};

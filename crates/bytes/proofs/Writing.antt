@@ -4,7 +4,7 @@ use mathlib.Core.List.{List, [], _∷_, _++_}
 use Prim.Native.Nat.{ℕ, zero, suc, _+_, _≤_, _<_}
 use native.Mathlib.Omega.{arith}
 use native.Mathlib.Nat.{add-zero}
-use lib.ListN.{length, getD, take, drop, set, replicate, length-set, length-append}
+use lib.ListN.{length, getD, take, drop, set, replicate, length-set}
 use lib.Seq.{sets, sets-eq, take-length}
 use borrow.Rule.Slice.PartMut.{putMid}
 use Rattle.std.proofs.shelf.Lists.{getD-set-same, getD-set-other, take-at}

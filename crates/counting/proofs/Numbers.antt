@@ -2,7 +2,7 @@
 use mathlib.Core.Path.{_≡_, refl, sym, ap, _∙_}
 use mathlib.Core.Bool.{Bool, true, false}
 use mathlib.Core.List.{List, [], _∷_}
-use Prim.Native.Nat.{ℕ, zero, suc, _+_, _-_, _*_, _/_, _%_, _^_, _<_, _≤_}
+use Prim.Native.Nat.{ℕ, suc, _+_, _-_, _*_, _/_, _%_, _^_, _<_, _≤_}
 use native.Mathlib.Nat.{mul-add, mul-assoc, mul-comm, pow-suc, pow-zero, one-mul, mul-one, mul-zero, mul-le-mul-left, mod-eq-of-lt, add-mul-mod-self-left, zero-add}
 use native.Mathlib.Omega.{arith}
 use lib.Dec.{ltb}

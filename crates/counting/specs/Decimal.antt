@@ -1,5 +1,5 @@
 -- Bytes of two decimal digits.
-use mathlib.Core.Bool.{Bool, true, false, cond, _&&_}
+use mathlib.Core.Bool.{Bool, cond, _&&_}
 use Prim.Native.Nat.{ℕ, _+_, _-_, _*_, _/_, _%_}
 use lib.Dec.{ltb}
 use Rattle.counting.specs.System.{System, bit}

@@ -1,6 +1,6 @@
 // Arithmetic on rows of bytes, low byte first, over any counting.
 ghost use mathlib.Core.Path.{_≡_};
-ghost use Prim.Native.Nat.{ℕ, _≤_};
+ghost use Prim.Native.Nat.{_≤_};
 ghost use lib.ListN.{length, getD};
 ghost use Rattle.counting.specs.System.{System, Laws, Lawful};
 ghost use Rattle.counting.specs.Chain.{linked, rowOf, carryOf, Whole, firstRefused};

@@ -1,6 +1,6 @@
 // A page of 256 addresses, and the bytes that a shadow keeps of it.
 ghost use mathlib.Core.Path.{_≡_};
-ghost use Prim.Native.Nat.{ℕ, _%_};
+ghost use Prim.Native.Nat.{_%_};
 ghost use Rattle.std.specs.declared.option.Option.the-variants.{None};
 ghost use Rattle.layers.specs.Layers.{in-page, kept-at, kept-after, shadow-takes};
 ghost use Rattle.layers.specs.Pages.{keptOf};

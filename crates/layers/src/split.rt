@@ -1,5 +1,4 @@
 // A layer over two buses, one for the addresses under a bound and one for the others.
-ghost use mathlib.Core.Path.{_≡_};
 ghost use Prim.Native.Nat.{ℕ};
 ghost use Rattle.layers.specs.Kept.{split-rules};
 ghost use Rattle.layers.specs.Layers.{split-meaning};

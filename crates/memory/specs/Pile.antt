@@ -1,6 +1,5 @@
 -- What the memory means: a split, with a guard over RAM below its bound and a line board above.
-use mathlib.Core.List.{List, map}
-use Prim.Native.Nat.{ℕ}
+use mathlib.Core.List.{map}
 use Rattle.std.specs.Of.Vec.{vec-items}
 use Rattle.bus.specs.Meaning.{Meaning}
 use Rattle.bus.specs.Rules.{Rules}

@@ -1,7 +1,7 @@
 // The lines that a record prints.
 ghost use mathlib.Core.Path.{_≡_};
-ghost use Prim.Native.Nat.{ℕ, _+_, _≤_};
-ghost use lib.ListN.{length, getD};
+ghost use Prim.Native.Nat.{_+_, _≤_};
+ghost use lib.ListN.{length};
 ghost use Rattle.bytes.specs.Rows.{over};
 ghost use Rattle.text.specs.Pieces.{joined, room};
 ghost use Rattle.play.specs.Lines.{endLines, rowOf, noLine, linesOf};

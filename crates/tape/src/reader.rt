@@ -1,6 +1,6 @@
 // A reader over the tape, with its place.
 ghost use mathlib.Core.Path.{_≡_};
-ghost use Prim.Native.Nat.{ℕ, _+_, _≤_, min};
+ghost use Prim.Native.Nat.{_+_, _≤_, min};
 ghost use denote.Ref.{now};
 ghost use lib.Dec.{leb};
 ghost use lib.ListN.{length, drop};

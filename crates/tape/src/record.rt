@@ -1,6 +1,6 @@
 // Records, and how they are read off the front of a tape.
 ghost use mathlib.Core.Path.{_≡_};
-ghost use Prim.Native.Nat.{ℕ, _+_, _^_, _<_, _≤_};
+ghost use Prim.Native.Nat.{_+_, _^_, _<_, _≤_};
 ghost use lib.ListN.{length};
 ghost use Rattle.std.specs.Vec.{made};
 ghost use Rattle.tape.specs.Records.{entryOf, entry, sizeOf, tapeNumber, markOf, admitOf, fieldsOf, loadOf, goOf, recordOf};

@@ -1,13 +1,9 @@
 -- One record after another.
 use mathlib.Core.Path.{_≡_, refl, sym, ap, _∙_}
 use mathlib.Core.Bool.{Bool, true, false, cond}
-use mathlib.Core.List.{List, [], _∷_, _++_, append-assoc, append-nil}
-use Prim.Native.Nat.{ℕ, zero, suc, _+_, _≤_}
+use mathlib.Core.List.{List, _++_, append-assoc, append-nil}
+use Prim.Native.Nat.{ℕ, suc, _+_}
 use native.Mathlib.Omega.{arith}
-use lib.ListN.{length, take, drop}
-use Rattle.std.proofs.shelf.Lists.{take-at}
-use Rattle.bytes.specs.Rows.{over}
-use Rattle.bytes.proofs.Writing.{over-front}
 use Rattle.play.specs.Lines.{linesOf}
 use Rattle.play.specs.Play.{World, playOf, overOf}
 use Rattle.transcript.specs.Printed.{printed, Added}

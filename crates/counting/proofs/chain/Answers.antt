@@ -1,6 +1,6 @@
 use mathlib.Core.Path.{sym, subst}
 use native.Mathlib.Omega.{arith}
-use Rattle.counting.specs.Chain.{rowOf, carryOf, Whole}
+use Rattle.counting.specs.Chain.{rowOf, Whole}
 use Rattle.counting.proofs.Loop.{linking-none, linking-more, linking-all}
 use Rattle.counting.proofs.Numbers.{whole}
 use Rattle.counting.proofs.chain.Needs as need

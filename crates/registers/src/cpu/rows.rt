@@ -1,6 +1,5 @@
 // Registers, pairs and rows of them. Register numbers wrap modulo 64.
 ghost use mathlib.Core.Path.{_≡_};
-ghost use Prim.Native.Nat.{ℕ, _≤_};
 ghost use lib.ListN.{length};
 ghost use Rattle.registers.specs.Model.{stateOf};
 ghost use Rattle.registers.specs.Rows.{registerAt, pairAt, rowAt, withPair, withRow, spanOf};

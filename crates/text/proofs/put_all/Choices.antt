@@ -1,5 +1,5 @@
 use Prim.Native.Nat.{_+_, _≤_}
-use lib.ListN.{length, drop}
+use lib.ListN.{drop}
 use Rattle.text.specs.Pieces.{joined, room}
 use Rattle.text.proofs.Writing.{Left}
 use Rattle.text.proofs.put_all.Given as given
