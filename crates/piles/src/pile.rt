@@ -36,11 +36,11 @@ pub enum Pile<B> {
 
 impl<B: Bus + Drop> Pile<B> {
     // A pile of no layer yet. Whatever layers are put on it, it is a bus by the same rules.
-    pub fn new(bus: B) -> Pile<B>
-        ensures built { λ r. ⌜ built (B·Bus .meaning) (B·Bus .rules) r ≡ bottom (B·Bus .meaning bus) (B·Bus .rules bus) ⌝ }
+    pub fn new(lowest: B) -> Pile<B>
+        ensures built { λ r. ⌜ built (B·Bus .meaning) (B·Bus .rules) r ≡ bottom (B·Bus .meaning lowest) (B·Bus .rules lowest) ⌝ }
         ensures every_pile { λ _. ⌜ Piles-are-buses ⌝ }
     {
-        Pile::Bottom(bus)
+        Pile::Bottom(lowest)
     }
 
     // Fails for want of memory alone, as the next two do.
