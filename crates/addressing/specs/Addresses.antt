@@ -1,6 +1,6 @@
 -- Where an operand in memory, or a store, is.
 use Rattle.std.specs.Prelude.{ℕ, ◌+◌, ◌-◌, ◌%◌, Bool, true, false, List, slice_index}
-use Rattle.bytes.specs.Rows.{pair}
+use Rattle.byte_rows.specs.Rows.{pair}
 use Rattle.registers.specs.State.{State}
 use Rattle.registers.specs.Rows.{pair_at, with_pair}
 use Rattle.reading.specs.Trees.{Tree, done}

@@ -1,5 +1,5 @@
 -- What fetched instructions and operands in memory stand for.
-use Rattle.bytes.specs.Short.{bytes_of}
+use Rattle.byte_rows.specs.Short.{bytes_of}
 use Rattle.addressing.specs.declared.fetching.Fetched.{Fetched as FetchedIn}
 use Rattle.addressing.specs.declared.operands.Operand.{Operand as OperandIn}
 use Rattle.addressing.specs.Fetching.{Fetched}

@@ -10,7 +10,7 @@ ghost use Rattle.addressing.specs.Models.{fetched_of};
 use crate::lengths::count_literals;
 use crate::operands::read_bytes;
 use bus::Bus;
-use bytes::Row;
+use byte_rows::Row;
 use decode::{Instruction, decode};
 use reading::{Fault, read_byte};
 use registers::Cpu;

@@ -1,4 +1,6 @@
 // How an instruction is fetched, and where its operands and stores are.
+#![tactic(auto)]
+
 mod addresses;
 mod fetching;
 mod lengths;

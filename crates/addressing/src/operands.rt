@@ -1,6 +1,6 @@
 // Reads an instruction's operand.
 ghost use Rattle.std.specs.Prelude.{◌≡◌, ◌≤◌};
-ghost use Rattle.bytes.specs.Short.{bytes_of};
+ghost use Rattle.byte_rows.specs.Short.{bytes_of};
 ghost use Rattle.registers.specs.Model.{state_of};
 ghost use Rattle.registers.specs.Rows.{row_at};
 ghost use Rattle.reading.specs.Readings.{Reads, row_tree};
@@ -12,7 +12,7 @@ ghost use Rattle.addressing.specs.Operands.{memory_tree, operand_tree};
 use crate::addresses::{address_of, base_address};
 use crate::lengths::width;
 use bus::Bus;
-use bytes::Row;
+use byte_rows::Row;
 use decode::{Form, Mode};
 use reading::{Fault, read_row};
 use registers::Cpu;

@@ -1,4 +1,6 @@
 // What the processor works out on rows of bytes, low byte first.
+#![tactic(auto)]
+
 mod examples;
 mod logic;
 mod operations;

@@ -1,8 +1,8 @@
 -- What a write of many bytes does to the meaning of RAM.
 use Rattle.std.proofs.Common.{◌≡◌, ℕ, ◌+◌, ◌-◌, ◌<◌, ◌≤◌, Bool, true, false, cond, leb, List, length, get_or, sym, refl, ap, ◌∙◌, arith}
 use Rattle.std.proofs.lemmas.Bool.Decides.{nat_tests}
-use Rattle.bytes.specs.Rows.{over}
-use Rattle.bytes.proofs.Writing.{length_over, get_or_over_before, get_or_over_within, get_or_over_after}
+use Rattle.byte_rows.specs.Rows.{over}
+use Rattle.byte_rows.proofs.Writing.{length_over, get_or_over_before, get_or_over_within, get_or_over_after}
 use Rattle.bus.specs.Meaning.{loaded}
 use Rattle.bus.specs.Kinds.{bytes_meaning, ram_meaning, holds}
 use Rattle.bus.proofs.Equal.{same_meaning}

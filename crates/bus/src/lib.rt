@@ -1,4 +1,6 @@
 // A bus of 65,536 addresses, and the three kinds that rest on no other: RAM, ROM and the line board.
+#![tactic(auto)]
+
 mod board;
 mod contract;
 mod place;

@@ -1,6 +1,6 @@
 // Bytes that are read and stored.
 ghost use Rattle.std.specs.Prelude.{◌≡◌, ℕ, ◌-◌, length, if◌then◌else◌};
-ghost use Rattle.bytes.specs.Rows.{over};
+ghost use Rattle.byte_rows.specs.Rows.{over};
 ghost use Rattle.bus.specs.Kept.{ram_rules};
 ghost use Rattle.bus.specs.Kinds.{ram_meaning, holds};
 ghost use Rattle.bus.specs.Meaning.{loaded};
@@ -8,7 +8,7 @@ ghost use Rattle.bus.specs.Meaning.{loaded};
 use crate::contract::Bus;
 use crate::place::place;
 use crate::refusal::{BusRefusal, Cause};
-use bytes::overwrite;
+use byte_rows::overwrite;
 
 // Byte i is at the address base + i.
 #[derive(Drop)]

@@ -1,4 +1,6 @@
 // Arithmetic on rows of bytes, low byte first, over any counting.
+#![tactic(auto)]
+
 ghost use Rattle.std.specs.Prelude.{◌≡◌, ◌≤◌, length, slice_index};
 ghost use Rattle.counting.specs.System.{System, Laws, Lawful};
 ghost use Rattle.counting.specs.Chain.{linked, row_of, carry_of, Whole, first_refused};

@@ -1,4 +1,6 @@
 // The instruction that a code stands for.
+#![tactic(auto)]
+
 ghost use Rattle.std.specs.Prelude.{◌≡◌, ◌<◌, not};
 ghost use Rattle.decode.specs.Codes.{form_of, source_of, shift_of, count_of, logic_of, control_of, mode_of, sum_mode_of, stack_of, sum_of, condition_of, decoded};
 ghost use Rattle.decode.specs.OneToOne.{illegal, CodesAreOneToOne};

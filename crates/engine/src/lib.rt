@@ -1,4 +1,6 @@
 // An exchange: cold, it is loaded; live, it is in service; what it ends with is its read-out.
+#![tactic(auto)]
+
 mod cold;
 mod live;
 mod ringing;

@@ -1,4 +1,6 @@
 // Plays the tape on standard input and prints its lines.
+#![tactic(auto)]
+
 ghost use Rattle.std.specs.Prelude.{◌≤◌, length, IfOk};
 
 use std::io;

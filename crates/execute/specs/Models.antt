@@ -1,6 +1,6 @@
 -- What the code tells of an instruction that it carried out, and the state that it left.
 use Rattle.std.specs.Prelude.{Ok, Err, Result}
-use Rattle.bytes.specs.Short.{bytes_of}
+use Rattle.byte_rows.specs.Short.{bytes_of}
 use Rattle.registers.specs.State.{State}
 use Rattle.reading.specs.declared.fault.Fault.{Fault}
 use Rattle.execute.specs.declared.executed.Executed.{Executed}

@@ -1,6 +1,6 @@
 // Subroutine jumps and returns.
 ghost use Rattle.std.specs.Prelude.{◌≡◌, false};
-ghost use Rattle.bytes.specs.Short.{bytes_of};
+ghost use Rattle.byte_rows.specs.Short.{bytes_of};
 ghost use Rattle.decode.specs.declared.instruction.Control.TheVariants.{Return as ReturnCode};
 ghost use Rattle.registers.specs.Model.{state_of};
 ghost use Rattle.reading.specs.Readings.{Reads};
@@ -13,7 +13,7 @@ use crate::executed::Executed;
 use crate::storing::inquire_row;
 use addressing::move_pair;
 use bus::Bus;
-use bytes::Row;
+use byte_rows::Row;
 use decode::Base;
 use reading::{Fault, read_pair};
 use registers::Cpu;

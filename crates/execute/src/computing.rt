@@ -1,6 +1,6 @@
 // Operations on the data.
 ghost use Rattle.std.specs.Prelude.{◌≡◌};
-ghost use Rattle.bytes.specs.Short.{bytes_of};
+ghost use Rattle.byte_rows.specs.Short.{bytes_of};
 ghost use Rattle.registers.specs.Model.{state_of};
 ghost use Rattle.alu.specs.Operations.{done as doneBy, operated};
 ghost use Rattle.reading.specs.Readings.{Reads};
@@ -14,7 +14,7 @@ use crate::executed::report::still;
 use addressing::{Operand, data_row, move_pair, read_operand, width};
 use alu::{Operation, Worked, operate};
 use bus::Bus;
-use bytes::Row;
+use byte_rows::Row;
 use decode::{Form, Mode};
 use reading::Fault;
 use registers::Cpu;

@@ -1,5 +1,5 @@
 // What is left to do and to tell once an instruction's registers are written.
-use bytes::Row;
+use byte_rows::Row;
 
 pub mod report;
 

@@ -1,4 +1,6 @@
 // What the instructions do: each is carried out on the processor, up to its stores, over any bus.
+#![tactic(auto)]
+
 mod calls;
 mod computing;
 mod controls;

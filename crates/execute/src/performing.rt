@@ -1,6 +1,6 @@
 // Carries out an instruction.
 ghost use Rattle.std.specs.Prelude.{◌≡◌, ◌+◌, length};
-ghost use Rattle.bytes.specs.Short.{bytes_of};
+ghost use Rattle.byte_rows.specs.Short.{bytes_of};
 ghost use Rattle.registers.specs.Model.{state_of};
 ghost use Rattle.registers.specs.State.{pc_of};
 ghost use Rattle.reading.specs.Readings.{Reads};
@@ -19,7 +19,7 @@ use crate::jumps::jump;
 use crate::storing::store;
 use addressing::{Fetched, base_address, fetch, pass};
 use bus::Bus;
-use bytes::Row;
+use byte_rows::Row;
 use decode::{Instruction, Source};
 use reading::Fault;
 use registers::Cpu;

@@ -1,11 +1,11 @@
 // The pointers and the status as three bytes.
 ghost use Rattle.std.specs.Prelude.{◌≡◌, ◌+◌, ◌*◌, ◌≤◌};
-ghost use Rattle.bytes.specs.Short.{bytes_of};
+ghost use Rattle.byte_rows.specs.Short.{bytes_of};
 ghost use Rattle.registers.specs.Bits.{bit_of};
 ghost use Rattle.registers.specs.Model.{state_of};
 ghost use Rattle.execute.specs.States.{saved, restored_status, restored};
 
-use bytes::Row;
+use byte_rows::Row;
 use counting::byte_at;
 use registers::{Cpu, Status};
 

@@ -1,6 +1,6 @@
 // Stores of the data.
 ghost use Rattle.std.specs.Prelude.{◌≡◌, length};
-ghost use Rattle.bytes.specs.Short.{bytes_of};
+ghost use Rattle.byte_rows.specs.Short.{bytes_of};
 ghost use Rattle.registers.specs.Model.{state_of};
 ghost use Rattle.reading.specs.Readings.{Reads, stores_tree};
 ghost use Rattle.reading.specs.Trees.{came, map_ok};
@@ -15,7 +15,7 @@ use crate::executed::report::still;
 use addressing::{address_of, base_address, data_row, width};
 use alu::see;
 use bus::Bus;
-use bytes::Row;
+use byte_rows::Row;
 use decode::{Base, Form, Mode};
 use reading::{Fault, inquire_stores};
 use registers::Cpu;

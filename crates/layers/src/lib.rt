@@ -1,4 +1,6 @@
 // Layers over any bus: guard, split and shadow.
+#![tactic(auto)]
+
 mod guard;
 mod page;
 mod shadow;

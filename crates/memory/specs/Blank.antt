@@ -1,5 +1,5 @@
 -- The memory before anything is loaded.
-use Rattle.bytes.specs.Rows.{zeros}
+use Rattle.byte_rows.specs.Rows.{zeros}
 use Rattle.bus.specs.Meaning.{Meaning}
 use Rattle.bus.specs.Kinds.{ram_meaning, bytes_meaning}
 use Rattle.layers.specs.Layers.{split_meaning, guard_meaning}

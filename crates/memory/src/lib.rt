@@ -1,4 +1,6 @@
 // The memory of the program `exchange`.
+#![tactic(auto)]
+
 mod memory;
 
 pub use memory::Memory;

@@ -1,4 +1,6 @@
 // What a step and a ring answer, and, in specs/, what steps, rings and runs of an exchange work out over any processor.
+#![tactic(auto)]
+
 mod answer;
 mod refusal;
 

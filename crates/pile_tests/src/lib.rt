@@ -1,4 +1,6 @@
 // Buses and piles by example.
+#![tactic(auto)]
+
 #[cfg(test)]
 mod depths;
 #[cfg(test)]

@@ -1,4 +1,6 @@
 // Plays a tape one record at a time, and writes each record's lines.
+#![tactic(auto)]
+
 mod fault;
 mod lines;
 mod phase;

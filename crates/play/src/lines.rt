@@ -1,6 +1,6 @@
 // The lines that a record prints.
 ghost use Rattle.std.specs.Prelude.{◌≡◌, ◌+◌, ◌≤◌, length, IfSome};
-ghost use Rattle.bytes.specs.Rows.{over};
+ghost use Rattle.byte_rows.specs.Rows.{over};
 ghost use Rattle.text.specs.Pieces.{joined, room, widest};
 ghost use Rattle.play.specs.Lines.{end_lines, row_of, letter_byte, last_detail, run_line, ring_line, ring_number, no_line, lines_of};
 

@@ -1,6 +1,6 @@
 // A player: a reader over the tape, and the exchange that it works.
 ghost use Rattle.std.specs.Prelude.{◌≡◌, ◌+◌, ◌≤◌, length, IfOk};
-ghost use Rattle.bytes.specs.Rows.{over};
+ghost use Rattle.byte_rows.specs.Rows.{over};
 ghost use Rattle.memory.specs.Pile.{meaning_of};
 ghost use Rattle.tape.specs.Records.{entry_of, size_of};
 ghost use Rattle.play.specs.Work.{stage_of, cold};

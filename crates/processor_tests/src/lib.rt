@@ -1,4 +1,6 @@
 // Codes, spans of registers, and reads of a bus, by example.
+#![tactic(auto)]
+
 #[cfg(test)]
 mod codes;
 #[cfg(test)]

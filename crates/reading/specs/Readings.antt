@@ -1,6 +1,6 @@
 -- The readings that instructions are made of.
 use Rattle.std.specs.Prelude.{◌≡◌, ℕ, zero, suc, ◌+◌, List, [], ◌∷◌, Ok, Err, Option, Result}
-use Rattle.bytes.specs.Rows.{pair}
+use Rattle.byte_rows.specs.Rows.{pair}
 use Rattle.bus.specs.declared.refusal.BusRefusal.{BusRefusal}
 use Rattle.bus.specs.Meaning.{Meaning}
 use Rattle.reading.specs.declared.fault.Fault.{Fault}

@@ -1,6 +1,6 @@
 -- Registers, pairs and rows of them. Register numbers wrap modulo 64.
 use Rattle.std.specs.Prelude.{ℕ, zero, suc, ◌+◌, ◌-◌, ◌/◌, ◌%◌, Bool, true, false, cond, List, [], ◌∷◌, nat_lt, slice_index, slice_set}
-use Rattle.bytes.specs.Rows.{pair}
+use Rattle.byte_rows.specs.Rows.{pair}
 use Rattle.registers.specs.State.{State}
 
 -- A byte form spans one register. A multi form spans 2 - DRP mod 2 below R40, and 8 - DRP mod 8 from R40 on.

@@ -1,6 +1,6 @@
 -- The processor's state, as the rules speak of it.
 use Rattle.std.specs.Prelude.{ℕ, ◌/◌, ◌%◌, List, slice_index, slice_set}
-use Rattle.bytes.specs.Rows.{pair, zeros}
+use Rattle.byte_rows.specs.Rows.{pair, zeros}
 use Rattle.registers.specs.declared.status.Status.{Status}
 use Rattle.registers.specs.Bits.{clear}
 

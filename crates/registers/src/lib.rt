@@ -1,4 +1,6 @@
 // The processor's own state: 64 byte registers, two pointers, eight status bits and the extend register E.
+#![tactic(auto)]
+
 mod cpu;
 mod mar;
 mod status;

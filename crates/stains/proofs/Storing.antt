@@ -2,7 +2,7 @@
 use Rattle.std.proofs.Common.{◌≡◌, ℕ, zero, suc, ◌/◌, ◌%◌, ◌^◌, ◌<◌, Bool, true, false, cond, ◌||◌, eqb, List, [], ◌∷◌, length, get_or, replicate, Ok, Result, sym, refl, ap, ◌∙◌, true≢false, mod-lt, lit<}
 use native.Mathlib.Nat.{zero-div}
 use lib.ListN.{length-replicate}
-use Rattle.bytes.specs.Rows.{zeros}
+use Rattle.byte_rows.specs.Rows.{zeros}
 use Rattle.bus.specs.declared.refusal.BusRefusal.{BusRefusal}
 use Rattle.bus.specs.Meaning.{Meaning, stored, after, if_ok}
 use Rattle.reading.specs.Sheets.{stained}

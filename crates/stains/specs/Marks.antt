@@ -1,6 +1,6 @@
 -- Setting and clearing stains. A stain is a taint bit: an interrupt handler was the last to store at the address.
 use Rattle.std.specs.Prelude.{ℕ, ◌-◌, ◌/◌, ◌%◌, ◌^◌, Bool, true, false, List, set, bit_and, bit_or, slice_index, slice_set}
-use Rattle.bytes.specs.Rows.{zeros}
+use Rattle.byte_rows.specs.Rows.{zeros}
 
 abbrev pub with_bit : Bool → ℕ → ℕ → ℕ
 with_bit true b k = bit_or b (2 ^ k)

@@ -1,4 +1,6 @@
 // Stores through a bus, with the sheet of stains kept beside it.
+#![tactic(auto)]
+
 ghost use Rattle.std.specs.Prelude.{◌≡◌};
 ghost use Rattle.stains.specs.Marks.{mark as marked};
 ghost use Rattle.stains.specs.Stores.{upward, after_all, marked_all};

@@ -2,7 +2,7 @@
 use Rattle.std.proofs.Common.{◌≡◌, ℕ, ◌+◌, ◌-◌, ◌≤◌, false, ltb, List, [], ◌∷◌, length, get_or, take, drop, Ok, Option, sym, ap, ◌∙◌, arith, length-drop, length-take}
 use Rattle.std.proofs.lemmas.Bool.{le-ltb}
 use Rattle.std.proofs.lemmas.List.{take_rest}
-use Rattle.bytes.specs.Rows.{pair}
+use Rattle.byte_rows.specs.Rows.{pair}
 use Rattle.tape.specs.declared.record.Mark.{Mark}
 use Rattle.tape.specs.declared.record.Turn.{Turn}
 use Rattle.tape.specs.Records.{load, load_of, mark_of, admit_of, fields_of, record_of, bind}

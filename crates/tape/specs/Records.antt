@@ -1,6 +1,6 @@
 -- What a tape says, record by record.
 use Rattle.std.specs.Prelude.{ℕ, ◌+◌, cond, ◌&&◌, List, [], ◌∷◌, length, take, drop, Some, None, Ok, Err, Option, Result, ◌==◌, nat_lt}
-use Rattle.bytes.specs.Rows.{pair}
+use Rattle.byte_rows.specs.Rows.{pair}
 use Rattle.tape.specs.declared.record.TapeFault.{TapeFault}
 use Rattle.tape.specs.declared.record.TapeFault.TheVariants.{UnknownMark, CutOff, OutOfTurn}
 use Rattle.tape.specs.declared.record.Turn.{Turn}

@@ -1,4 +1,6 @@
 // Plays a table of tapes, one for each way a record is taken or refused, and prints what each prints.
+#![tactic(auto)]
+
 use memory::Memory;
 use play::Player;
 use std::io::Write;

@@ -2,8 +2,8 @@
 use Rattle.std.proofs.Common.{◌≡◌, ℕ, ◌+◌, ◌/◌, ◌%◌, ◌^◌, ◌<◌, ◌≤◌, List, [], ◌∷◌, ◌++◌, length, get_or, drop, decimal, sym, ap, ◌∙◌, arith, length-append}
 use Rattle.std.proofs.lemmas.List.{length_push, at_drop_more, at_drop_all}
 use Rattle.std.proofs.lemmas.Fmt.{decimal_step, length-decimal-le}
-use Rattle.bytes.specs.Rows.{over}
-use Rattle.bytes.proofs.Writing.{over_over}
+use Rattle.byte_rows.specs.Rows.{over}
+use Rattle.byte_rows.proofs.Writing.{over_over}
 use Rattle.text.specs.declared.Piece.{Piece}
 use Rattle.text.specs.declared.Piece.TheVariants.{Byte}
 use Rattle.text.specs.Pieces.{spelled, joined, apart, one_apart, widest, room}

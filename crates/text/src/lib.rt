@@ -1,9 +1,11 @@
 // Lines of text, written piece by piece to the front of a lent buffer. Nothing is allocated.
+#![tactic(auto)]
+
 ghost use Rattle.std.specs.Prelude.{◌≡◌, ◌+◌, ◌-◌, ◌*◌, ◌/◌, ◌%◌, ◌<◌, ◌≤◌, leb, length, is_some, IfSome, if◌then◌else◌, Some, None, decimal, nat_le};
-ghost use Rattle.bytes.specs.Rows.{over};
+ghost use Rattle.byte_rows.specs.Rows.{over};
 ghost use Rattle.text.specs.Pieces.{hex_digit, spelled, joined, widest, room, apart, one_apart};
 
-use bytes::overwrite;
+use byte_rows::overwrite;
 
 // What a line is made of.
 #[derive(Clone, Copy)]

@@ -1,6 +1,6 @@
 -- What is printed of a whole tape.
 use Rattle.std.specs.Prelude.{◌≡◌, ℕ, zero, suc, ◌+◌, cond, List, [], ◌++◌, length}
-use Rattle.bytes.specs.Rows.{zeros}
+use Rattle.byte_rows.specs.Rows.{zeros}
 use Rattle.memory.specs.Blank.{blank}
 use Rattle.play.specs.Work.{cold, scene}
 use Rattle.play.specs.Lines.{lines_of}

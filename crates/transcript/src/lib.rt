@@ -1,4 +1,6 @@
 // A whole tape, and all that is printed of it.
+#![tactic(auto)]
+
 ghost use Rattle.std.specs.Prelude.{◌≡◌, ◌++◌, length, take, IfOk, OnOk};
 ghost use Rattle.memory.specs.Pile.{meaning_of};
 ghost use Rattle.play.specs.Play.{world_of, tape_of};

@@ -5,7 +5,7 @@ ghost use Rattle.execute.specs.Models.{plan_of};
 ghost use Rattle.execute.specs.Plans.{still as stillPlan};
 
 use crate::executed::Executed;
-use bytes::Row;
+use byte_rows::Row;
 use registers::Cpu;
 
 pub fn still(cpu: &Cpu, length: u8) -> Executed

@@ -1,6 +1,6 @@
 use Rattle.std.proofs.Common.{◌+◌, length, sym, ap, ◌∙◌, arith}
 use Rattle.std.proofs.lemmas.Fmt.{decimal_digit}
-use Rattle.bytes.specs.Rows.{over}
+use Rattle.byte_rows.specs.Rows.{over}
 use Rattle.text.proofs.Writing.{decimal_last, decimal_length, decimal_short}
 use Rattle.text.proofs.+put_decimal.Goals as goal
 

@@ -1,6 +1,6 @@
 use Rattle.std.proofs.Common.{length, get_or, sym, ap, ◌∙◌, arith}
-use Rattle.bytes.specs.Rows.{over}
-use Rattle.bytes.proofs.Writing.{over_none}
+use Rattle.byte_rows.specs.Rows.{over}
+use Rattle.byte_rows.proofs.Writing.{over_none}
 use Rattle.text.specs.Pieces.{spelled}
 use Rattle.text.specs.declared.Piece.TheVariants.{Byte}
 use Rattle.text.proofs.Writing.{left_more, joined_more, joined_all, room_more}

@@ -1,7 +1,7 @@
 use Rattle.std.proofs.Common.{◌+◌, length, get_or, sym, ap, ◌∙◌, arith}
 use Rattle.std.proofs.lemmas.List.{at_drop_all}
-use Rattle.bytes.specs.Rows.{over}
-use Rattle.bytes.proofs.Writing.{over_none}
+use Rattle.byte_rows.specs.Rows.{over}
+use Rattle.byte_rows.proofs.Writing.{over_none}
 use Rattle.text.specs.Pieces.{apart, one_apart}
 use Rattle.text.proofs.Writing.{left_more, apart_more}
 use Rattle.text.proofs.put_row.Goals as goal

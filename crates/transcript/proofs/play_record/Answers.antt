@@ -1,5 +1,5 @@
 use Rattle.std.proofs.Common.{◌≡◌, ◌-◌, ◌≤◌, ◌++◌, length, take, vec_items, ap, ◌∙◌, arith}
-use Rattle.bytes.proofs.Writing.{over_front}
+use Rattle.byte_rows.proofs.Writing.{over_front}
 use Rattle.memory.specs.Pile.{meaning_of}
 use Rattle.play.specs.Lines.{lines_of}
 use Rattle.play.specs.Play.{world_of, tape_of, play_of}

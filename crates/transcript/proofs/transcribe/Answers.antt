@@ -1,7 +1,7 @@
 use Rattle.std.proofs.Common.{◌≡◌, ℕ, ◌+◌, ◌-◌, min, List, ◌++◌, length, take, vec_items, sym, ap, ◌∙◌, arith, length-take, rules}
 use Rattle.std.proofs.lemmas.List.{take-take, take_all}
 use Rattle.std.proofs.lemmas.Result.{IfOk-weaker}
-use Rattle.bytes.proofs.Writing.{is_zeros}
+use Rattle.byte_rows.proofs.Writing.{is_zeros}
 use Rattle.memory.specs.Pile.{meaning_of}
 use Rattle.play.specs.Work.{scene}
 use Rattle.play.specs.Play.{world, world_of, tape_of}

@@ -1,6 +1,6 @@
 use Rattle.std.proofs.Common.{◌≡◌, ℕ, List, Ok, Err, refl, ap, ◌∙◌}
 use Rattle.std.proofs.lemmas.Result.{err_from_is_err_and}
-use Rattle.bytes.specs.Short.{bytes_of}
+use Rattle.byte_rows.specs.Short.{bytes_of}
 use Rattle.reading.specs.Trees.{Tree, done, bind, map_ok}
 use Rattle.reading.specs.Readings.{row_tree}
 use Rattle.reading.proofs.Laws.{then, stops}

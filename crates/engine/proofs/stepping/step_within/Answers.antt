@@ -1,5 +1,5 @@
 use Rattle.std.proofs.Common.{◌≡◌, Bool, true, false, cond, Some, None, Ok, sym, ap, ◌∙◌}
-use Rattle.bytes.specs.Short.{bytes_of}
+use Rattle.byte_rows.specs.Short.{bytes_of}
 use Rattle.registers.specs.Model.{state_of}
 use Rattle.reading.specs.Trees.{came, map_ok}
 use Rattle.execute.specs.Instructions.{plan_tree}

@@ -1,6 +1,6 @@
 use Rattle.std.proofs.Common.{◌≡◌, Ok, Err, sym, refl, ap, ◌∙◌, subst}
 use Rattle.std.proofs.lemmas.Result.{err_from_is_err_and}
-use Rattle.bytes.specs.Short.{bytes_of}
+use Rattle.byte_rows.specs.Short.{bytes_of}
 use Rattle.registers.specs.Model.{state_of}
 use Rattle.reading.specs.Trees.{Tree, given, map_ok}
 use Rattle.reading.specs.Readings.{Reads}

@@ -1,5 +1,5 @@
 use Rattle.std.proofs.Common.{sym, subst}
-use Rattle.bytes.specs.Short.{bytes_of}
+use Rattle.byte_rows.specs.Short.{bytes_of}
 use Rattle.registers.specs.Model.{state_of}
 use Rattle.decode.specs.declared.instruction.Mode.TheVariants.{Immediate}
 use Rattle.reading.specs.Trees.{map_ok}

@@ -1,5 +1,5 @@
 use Rattle.std.proofs.Common.{◌≡◌, ℕ, List, [], ◌∷◌, length, codes, ap, ◌∙◌}
-use Rattle.bytes.specs.Rows.{over}
+use Rattle.byte_rows.specs.Rows.{over}
 use Rattle.engine.specs.declared.live.ReadOut.{ReadOut}
 use Rattle.text.specs.declared.Piece.{Piece}
 use Rattle.text.specs.declared.Piece.TheVariants.{Byte, Word, Octal2, Hex1, Hex2}

@@ -1,6 +1,6 @@
 use Rattle.std.proofs.Common.{◌≡◌, ◌+◌, ◌-◌, cond, leb, length, refl, ap, ◌∙◌, arith}
 use Rattle.std.proofs.lemmas.List.{take_at}
-use Rattle.bytes.specs.Rows.{over}
+use Rattle.byte_rows.specs.Rows.{over}
 use Rattle.bus.specs.Kinds.{holds}
 use Rattle.bus.proofs.Loads.{ram_load, length_load, holds_rest}
 use Rattle.bus.proofs.ram.Ram.load.Goals as goal

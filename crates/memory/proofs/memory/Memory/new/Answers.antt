@@ -1,5 +1,5 @@
 use Rattle.std.proofs.Common.{◌≡◌, map, replicate, ap, ◌∙◌, arith}
-use Rattle.bytes.proofs.Writing.{is_zeros}
+use Rattle.byte_rows.proofs.Writing.{is_zeros}
 use Rattle.bus.specs.Kinds.{ram_meaning, bytes_meaning, trunk_byte}
 use Rattle.layers.specs.Layers.{split_meaning, guard_meaning}
 use Rattle.memory.proofs.memory.Memory.new.Goals as goal

@@ -1,5 +1,5 @@
 use Rattle.std.proofs.Common.{sym, refl, arith, rules}
-use Rattle.bytes.proofs.Writing.{over_none}
+use Rattle.byte_rows.proofs.Writing.{over_none}
 use Rattle.text.specs.Pieces.{joined}
 use Rattle.play.proofs.player.Player.play.Goals as goal
 

@@ -1,5 +1,5 @@
 use Rattle.std.proofs.Common.{rules}
-use Rattle.bytes.specs.Rows.{zeros}
+use Rattle.byte_rows.specs.Rows.{zeros}
 use Rattle.registers.specs.State.{began}
 use Rattle.registers.proofs.cpu.Cpu.new.Goals as goal
 

@@ -1,6 +1,8 @@
 // Rows of bytes: one written over a part of another, and rows of up to eight bytes as values.
+#![tactic(auto)]
+
 ghost use Rattle.std.specs.Prelude.{◌≡◌, ◌+◌, length, if◌then◌else◌, nat_le};
-ghost use Rattle.bytes.specs.Rows.{over};
+ghost use Rattle.byte_rows.specs.Rows.{over};
 
 mod row;
 

@@ -4,7 +4,7 @@ use lib.Seq.{sets, sets-eq, take-length}
 use borrow.Rule.Slice.PartMut.{put_mid}
 use Rattle.std.proofs.lemmas.List.{get_or-set_same, get_or-set_other, take_at}
 use Rattle.std.proofs.lemmas.Slice.{put_mid-paste}
-use Rattle.bytes.specs.Rows.{over, zeros}
+use Rattle.byte_rows.specs.Rows.{over, zeros}
 
 pub over_none : (row : List ℕ) (i : ℕ) → over row i [] ≡ row
 unfolding over
