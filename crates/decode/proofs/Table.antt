@@ -5,8 +5,6 @@ use Rattle.alu.specs.declared.operations.Operation.{Operation}
 use Rattle.alu.specs.declared.operations.Operation.TheVariants.{ExtendedLeft, ExtendedRight, LogicalLeft, LogicalRight, Increment, Decrement, Negate, Complement, Test, Clear, Or, ExclusiveOr, And, Load, Compare, Add, Subtract}
 use Rattle.decode.specs.declared.instruction.Form.{Form}
 use Rattle.decode.specs.declared.instruction.Form.TheVariants.{Byte, Multi}
-use Rattle.decode.specs.declared.instruction.Base.{Base}
-use Rattle.decode.specs.declared.instruction.Base.TheVariants as base
 use Rattle.decode.specs.declared.instruction.Mode.{Mode}
 use Rattle.decode.specs.declared.instruction.Mode.TheVariants as mode
 use Rattle.decode.specs.declared.instruction.Source.{Source}
@@ -32,46 +30,46 @@ abbrev of_source : Source → ℕ
 of_source (Number n) = n
 of_source R0 = 1
 
--- a mode's code less that of a register operand: among loads, among sums, and among stores, which stand two after loads and
--- on a stack four after
-abbrev of_load_base : Base → Bool → ℕ
-of_load_base base.Register i = 4 + 8 * bit i
-of_load_base base.Literal i = 16 + 8 * bit i
-of_load_base base.Indexed i = 20 + 8 * bit i
-of_load_base base.StackUp i = 64 + 8 * bit i
-of_load_base base.StackDown i = 66 + 8 * bit i
+-- a mode's code less that of a register operand: among loads, and among sums
+abbrev of_mode : Mode → ℕ
+of_mode mode.None = 0
+of_mode mode.Register = 0
+of_mode mode.RegisterDirect = 4
+of_mode mode.Immediate = 8
+of_mode mode.RegisterIndirect = 12
+of_mode mode.LiteralDirect = 16
+of_mode mode.IndexedDirect = 20
+of_mode mode.LiteralIndirect = 24
+of_mode mode.IndexedIndirect = 28
+of_mode (mode.StackUp i) = 64 + 8 * bit i
+of_mode (mode.StackDown i) = 66 + 8 * bit i
 
-abbrev of_load : Mode → ℕ
-of_load mode.None = 0
-of_load mode.Register = 0
-of_load mode.Immediate = 8
-of_load (mode.Memory b i) = of_load_base b i
+abbrev of_sum_mode : Mode → ℕ
+of_sum_mode mode.None = 0
+of_sum_mode mode.Register = 0
+of_sum_mode mode.RegisterDirect = 24
+of_sum_mode mode.Immediate = 8
+of_sum_mode mode.RegisterIndirect = 0
+of_sum_mode mode.LiteralDirect = 16
+of_sum_mode mode.IndexedDirect = 0
+of_sum_mode mode.LiteralIndirect = 0
+of_sum_mode mode.IndexedIndirect = 0
+of_sum_mode (mode.StackUp i) = 0
+of_sum_mode (mode.StackDown i) = 0
 
-abbrev of_sum_base : Base → ℕ
-of_sum_base base.Register = 24
-of_sum_base base.Literal = 16
-of_sum_base base.Indexed = 0
-of_sum_base base.StackUp = 0
-of_sum_base base.StackDown = 0
-
-abbrev of_sum : Mode → ℕ
-of_sum mode.None = 0
-of_sum mode.Register = 0
-of_sum mode.Immediate = 8
-of_sum (mode.Memory b i) = of_sum_base b
-
-abbrev of_store_base : Base → Bool → ℕ
-of_store_base base.Register i = 6 + 8 * bit i
-of_store_base base.Literal i = 18 + 8 * bit i
-of_store_base base.Indexed i = 22 + 8 * bit i
-of_store_base base.StackUp i = 68 + 8 * bit i
-of_store_base base.StackDown i = 70 + 8 * bit i
-
+-- stores stand two after loads, and on a stack four after
 abbrev of_store : Mode → ℕ
 of_store mode.None = 0
 of_store mode.Register = 2
+of_store mode.RegisterDirect = 6
 of_store mode.Immediate = 10
-of_store (mode.Memory b i) = of_store_base b i
+of_store mode.RegisterIndirect = 14
+of_store mode.LiteralDirect = 18
+of_store mode.IndexedDirect = 22
+of_store mode.LiteralIndirect = 26
+of_store mode.IndexedIndirect = 30
+of_store (mode.StackUp i) = 68 + 8 * bit i
+of_store (mode.StackDown i) = 70 + 8 * bit i
 
 abbrev of_operation : Operation → Mode → ℕ
 of_operation ExtendedLeft m = 0x80
@@ -86,11 +84,11 @@ of_operation Test m = 0x90
 of_operation Clear m = 0x92
 of_operation Or m = 0x94
 of_operation ExclusiveOr m = 0x96
-of_operation And m = 0xC6 + of_sum m
-of_operation Load m = 0xA0 + of_load m
-of_operation Compare m = 0xC0 + of_sum m
-of_operation Add m = 0xC2 + of_sum m
-of_operation Subtract m = 0xC4 + of_sum m
+of_operation And m = 0xC6 + of_sum_mode m
+of_operation Load m = 0xA0 + of_mode m
+of_operation Compare m = 0xC0 + of_sum_mode m
+of_operation Add m = 0xC2 + of_sum_mode m
+of_operation Subtract m = 0xC4 + of_sum_mode m
 
 abbrev of_control : Control → ℕ
 of_control control.Binary = 0
@@ -102,12 +100,18 @@ of_control control.ClearE = 5
 of_control control.Return = 6
 of_control control.RestoreStatus = 7
 
-abbrev of_call : Base → ℕ
-of_call base.Register = 0
-of_call base.Literal = 0xCE
-of_call base.Indexed = 0xC6
-of_call base.StackUp = 0
-of_call base.StackDown = 0
+abbrev of_call : Mode → ℕ
+of_call mode.None = 0
+of_call mode.Register = 0
+of_call mode.RegisterDirect = 0
+of_call mode.Immediate = 0
+of_call mode.RegisterIndirect = 0
+of_call mode.LiteralDirect = 0xCE
+of_call mode.IndexedDirect = 0xC6
+of_call mode.LiteralIndirect = 0
+of_call mode.IndexedIndirect = 0
+of_call (mode.StackUp i) = 0
+of_call (mode.StackDown i) = 0
 
 abbrev of_condition : Condition → ℕ
 of_condition when.Always = 0
@@ -133,7 +137,7 @@ code_of (instruction.SetDrp s) = 0x40 + of_source s
 code_of (instruction.Compute o m f) = of_operation o m + of_form f
 code_of (instruction.Store m f) = 0xA0 + of_store m + of_form f
 code_of (instruction.Control k) = 0x98 + of_control k
-code_of (instruction.Call b) = of_call b
+code_of (instruction.Call m) = of_call m
 code_of (instruction.Jump c) = 0xF0 + of_condition c
 
 -- a code's instruction has that code, or the code is illegal

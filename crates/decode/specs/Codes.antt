@@ -4,8 +4,6 @@ use Rattle.alu.specs.declared.operations.Operation.{Operation}
 use Rattle.alu.specs.declared.operations.Operation.TheVariants as op
 use Rattle.decode.specs.declared.instruction.Form.{Form}
 use Rattle.decode.specs.declared.instruction.Form.TheVariants.{Byte, Multi}
-use Rattle.decode.specs.declared.instruction.Base.{Base}
-use Rattle.decode.specs.declared.instruction.Base.TheVariants as base
 use Rattle.decode.specs.declared.instruction.Mode.{Mode}
 use Rattle.decode.specs.declared.instruction.Mode.TheVariants as mode
 use Rattle.decode.specs.declared.instruction.Source.{Source}
@@ -48,25 +46,17 @@ logic_of n f = of4 n (instruction.Compute op.Test mode.None f) (instruction.Comp
 abbrev pub control_of : ℕ → Control
 control_of n = of8 n control.Binary control.Decimal control.SaveStatus control.DecrementE control.IncrementE control.ClearE control.Return control.RestoreStatus
 
--- In memory, at the base itself or at the pair found there.
-abbrev pub direct : Base → Mode
-direct b = mode.Memory b false
-
-abbrev pub indirect : Base → Mode
-indirect b = mode.Memory b true
-
 -- The eight operands of LD and ST.
 abbrev pub mode_of : ℕ → Mode
-mode_of n = of8 n mode.Register (direct base.Register) mode.Immediate (indirect base.Register) (direct base.Literal) (direct base.Indexed) (indirect base.Literal) (indirect base.Indexed)
+mode_of n = of8 n mode.Register mode.RegisterDirect mode.Immediate mode.RegisterIndirect mode.LiteralDirect mode.IndexedDirect mode.LiteralIndirect mode.IndexedIndirect
 
 -- The four operands of CM, AD, SB and AN.
 abbrev pub sum_mode_of : ℕ → Mode
-sum_mode_of n = of4 n mode.Register mode.Immediate (direct base.Literal) (direct base.Register)
+sum_mode_of n = of4 n mode.Register mode.Immediate mode.LiteralDirect mode.RegisterDirect
 
--- The eight operands of PO and PU.
 abbrev pub stack_of : Bool → Bool → Mode
-stack_of false i = mode.Memory base.StackUp i
-stack_of true i = mode.Memory base.StackDown i
+stack_of false i = mode.StackUp i
+stack_of true i = mode.StackDown i
 
 -- Codes C0 to DF, by row and low three bits: CM, AD, SB in both forms, AN multi; JSB in the first two rows.
 abbrev pub sum_of : ℕ → ℕ → Option Instruction
@@ -75,7 +65,7 @@ sum_of r k =
     (cond (nat_lt k 4) (Some (instruction.Compute op.Add (sum_mode_of r) (form_of k)))
     (cond (nat_lt k 6) (Some (instruction.Compute op.Subtract (sum_mode_of r) (form_of k)))
     (cond (k == 7) (Some (instruction.Compute op.And (sum_mode_of r) Multi))
-    (of4 r (Some (instruction.Call base.Indexed)) (Some (instruction.Call base.Literal)) None None))))
+    (of4 r (Some (instruction.Call mode.IndexedDirect)) (Some (instruction.Call mode.LiteralDirect)) None None))))
 
 -- JMP JNO JOD JEV JNG JPS JNZ JZR JEN JEZ JNC JCY JLZ JLN JRZ JRN.
 abbrev pub condition_of : ℕ → Condition

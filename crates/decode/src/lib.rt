@@ -8,7 +8,7 @@ ghost use Rattle.decode.specs.OneToOne.{illegal, CodesAreOneToOne};
 mod instruction;
 
 use alu::Operation;
-pub use instruction::{Base, Condition, Control, Form, Instruction, Mode, Source};
+pub use instruction::{Condition, Control, Form, Instruction, Mode, Source};
 
 fn form(code: u8) -> Form
     ensures { result ≡ form_of code }
@@ -77,25 +77,19 @@ fn control(n: u8) -> Control
     }
 }
 
-fn memory(base: Base, indirect: bool) -> Mode
-    ensures { result ≡ Mode.Memory base indirect }
-{
-    Mode::Memory { base, indirect }
-}
-
 // The eight operands of LD and ST.
 fn mode(n: u8) -> Mode
     ensures { result ≡ mode_of n }
 {
     match n {
         0 => Mode::Register,
-        1 => memory(Base::Register, false),
+        1 => Mode::RegisterDirect,
         2 => Mode::Immediate,
-        3 => memory(Base::Register, true),
-        4 => memory(Base::Literal, false),
-        5 => memory(Base::Indexed, false),
-        6 => memory(Base::Literal, true),
-        _ => memory(Base::Indexed, true),
+        3 => Mode::RegisterIndirect,
+        4 => Mode::LiteralDirect,
+        5 => Mode::IndexedDirect,
+        6 => Mode::LiteralIndirect,
+        _ => Mode::IndexedIndirect,
     }
 }
 
@@ -106,19 +100,18 @@ fn sum_mode(n: u8) -> Mode
     match n {
         0 => Mode::Register,
         1 => Mode::Immediate,
-        2 => memory(Base::Literal, false),
-        _ => memory(Base::Register, false),
+        2 => Mode::LiteralDirect,
+        _ => Mode::RegisterDirect,
     }
 }
 
-// The eight operands of PO and PU.
 fn stack(down: bool, indirect: bool) -> Mode
     ensures { result ≡ stack_of down indirect }
 {
     if down {
-        memory(Base::StackDown, indirect)
+        Mode::StackDown { indirect }
     } else {
-        memory(Base::StackUp, indirect)
+        Mode::StackUp { indirect }
     }
 }
 
@@ -133,8 +126,8 @@ fn sum(row: u8, low: u8) -> Option<Instruction>
         2 | 3 => Some(Instruction::Compute(Operation::Add, mode, form(low))),
         4 | 5 => Some(Instruction::Compute(Operation::Subtract, mode, form(low))),
         7 => Some(Instruction::Compute(Operation::And, mode, Form::Multi)),
-        _ if row == 0 => Some(Instruction::Call(Base::Indexed)),
-        _ if row == 1 => Some(Instruction::Call(Base::Literal)),
+        _ if row == 0 => Some(Instruction::Call(Mode::IndexedDirect)),
+        _ if row == 1 => Some(Instruction::Call(Mode::LiteralDirect)),
         _ => None,
     }
 }

@@ -1,17 +1,11 @@
 // An exchange that is not in service yet.
 ghost use Rattle.std.specs.Prelude.{◌≡◌, length};
 ghost use Rattle.registers.specs.State.{began};
-ghost use Rattle.stains.specs.Marks.{blank};
-ghost use Rattle.noninterference.specs.Histories.{begun};
-ghost use Rattle.noninterference.specs.Theorem.{CleanHandlersLeaveNoTrace, StainsTellTheLastStore, ABusIsItsMeaning};
-ghost use Rattle.piles.specs.Piles.{PilesAreBuses};
 ghost use Rattle.engine.specs.Loads.{load_answer, load_after, load_number};
-ghost use Rattle.engine.specs.Machine.{machine};
-ghost use Rattle.engine.specs.Promise.{BottomsAreBuses};
-ghost use Rattle.engine.specs.States.{in_service};
+ghost use Rattle.engine.specs.States.{live_state};
 
 use crate::live::Live;
-use bus::{Bus, Loadable};
+use bus::Loadable;
 use registers::Cpu;
 
 // It holds nothing: its memory is lent at each call, and its processor begins at GO. Loading exists on it alone.
@@ -58,26 +52,13 @@ impl Cold {
         }
     }
 
-    // Goes into service on the bus: all of the processor's state is zero but the program counter and the return pointer. From here
-    // on, whatever steps, runs and rings come, with a sheet that is blank now:
-    // - if no step tells a stain and no visit ends marred, every exchange that is never rung and gets the same steps outside
-    //   visits, on whatever bus of equal meaning, gives the same answers and ends alike;
-    // - an address is stained exactly when a handler was the last to store there;
-    // - what is said of meanings holds of every kind of bus; RAM, ROM and the line board are buses, and so is every pile of guards,
-    //   splits and shadows over buses, however high.
-    pub fn go<B: Bus>(self, bus: &B, pc: u16, return_pointer: u16) -> Live
-        ensures begun { in_service result blank (meaning bus.now) ≡ (begun machine (began pc return_pointer) (meaning bus.now)).state }
-        ensures clean_handlers_leave_no_trace { CleanHandlersLeaveNoTrace machine }
-        ensures stains_tell_the_last_store { StainsTellTheLastStore machine }
-        ensures a_bus_is_its_meaning { ABusIsItsMeaning machine B.Bus.meaning }
-        ensures bottoms_are_buses { BottomsAreBuses }
-        ensures piles_are_buses { PilesAreBuses }
+    // Goes into service: all of the processor's state is zero but the program counter and the return pointer.
+    pub fn go(self, pc: u16, return_pointer: u16) -> Live
+        ensures { live_state result ≡ began pc return_pointer }
     {
         let Cold = self;
-        let _ = bus;
         Live {
             cpu: Cpu::new(pc, return_pointer),
-            visit: None,
         }
     }
 }

@@ -3,10 +3,6 @@
 
 mod cold;
 mod live;
-mod ringing;
-mod running;
-mod stepping;
 
 pub use cold::{Cold, LoadFault};
 pub use live::{Live, ReadOut};
-pub use running::Report;

@@ -4,11 +4,9 @@ ghost use Rattle.engine.specs.States.{live_state, read_out_of};
 
 use registers::{Cpu, Status};
 
-// While a visit is open it keeps a copy of the processor from before the ring.
 #[derive(Drop)]
 pub struct Live {
     pub cpu: Cpu,
-    pub visit: Option<Cpu>,
 }
 
 // What an exchange ends with.

@@ -1,10 +1,9 @@
 // What comes of a record, and why one is refused.
 ghost use Rattle.std.specs.Prelude.{◌≡◌};
-ghost use Rattle.play.specs.declared.fault.Refusal.TheVariants.{Tape, Load, Step};
+ghost use Rattle.play.specs.declared.fault.Refusal.TheVariants.{Tape, Load};
 ghost use Rattle.play.specs.Numbers.{refusal_number};
 
-use engine::{LoadFault, ReadOut, Report};
-use noninterference::Refusal as StepRefusal;
+use engine::{LoadFault, ReadOut};
 use tape::TapeFault;
 
 #[derive(Clone, Copy)]
@@ -13,8 +12,6 @@ pub enum Refusal {
     Sheet,
     Tape(TapeFault),
     Load(LoadFault),
-    // A run was refused whole.
-    Step(StepRefusal),
     // The line buffer has under 512 bytes.
     Buffer,
 }
@@ -28,7 +25,6 @@ impl Refusal {
             Refusal::Sheet => 1,
             Refusal::Tape(fault) => fault.number(),
             Refusal::Load(fault) => fault.number(),
-            Refusal::Step(refusal) => refusal.fault.number(),
             Refusal::Buffer => 14,
         }
     }
@@ -37,24 +33,16 @@ impl Refusal {
 impl From<TapeFault> for Refusal {
     ghost from_gives = { λ fault r. r ≡ Tape fault };
 
-    fn from(below: TapeFault) -> Refusal {
-        Refusal::Tape(below)
+    fn from(fault: TapeFault) -> Refusal {
+        Refusal::Tape(fault)
     }
 }
 
 impl From<LoadFault> for Refusal {
     ghost from_gives = { λ fault r. r ≡ Load fault };
 
-    fn from(below: LoadFault) -> Refusal {
-        Refusal::Load(below)
-    }
-}
-
-impl From<StepRefusal> for Refusal {
-    ghost from_gives = { λ refusal r. r ≡ Step refusal };
-
-    fn from(below: StepRefusal) -> Refusal {
-        Refusal::Step(below)
+    fn from(fault: LoadFault) -> Refusal {
+        Refusal::Load(fault)
     }
 }
 
@@ -70,15 +58,6 @@ pub struct PlayFault {
 pub enum Event {
     Loaded,
     Began,
-    // The program counter is the one after the run or the ring.
-    Ran {
-        report: Report,
-        pc: u16,
-    },
-    Rang {
-        outcome: Result<(), StepRefusal>,
-        pc: u16,
-    },
     Ended(ReadOut),
 }
 

@@ -1,12 +1,11 @@
 // The lines that a record prints.
-ghost use Rattle.std.specs.Prelude.{◌≡◌, ◌+◌, ◌≤◌, length, IfSome};
+ghost use Rattle.std.specs.Prelude.{◌≡◌, ◌+◌, ◌≤◌, length};
 ghost use Rattle.byte_rows.specs.Rows.{over};
-ghost use Rattle.text.specs.Pieces.{joined, room, widest};
-ghost use Rattle.play.specs.Lines.{end_lines, row_of, letter_byte, last_detail, run_line, ring_line, ring_number, no_line, lines_of};
+ghost use Rattle.text.specs.Pieces.{joined, room};
+ghost use Rattle.play.specs.Lines.{end_lines, row_of, no_line, lines_of};
 
 use crate::fault::{Event, PlayFault, Refusal};
-use engine::{ReadOut, Report};
-use noninterference::{Answer, Letter, Refusal as StepRefusal, VisitEnd};
+use engine::ReadOut;
 use text::{Piece, put};
 
 // Writes the pieces at the front of the buffer, and says how many bytes they take.
@@ -94,84 +93,6 @@ fn put_end(out: &mut [u8], read_out: ReadOut) -> usize
     )
 }
 
-fn letter_byte(letter: Letter) -> u8
-    ensures { result ≡ letter_byte letter }
-{
-    match letter {
-        Letter::Done => b'S',
-        Letter::Refused => b'R',
-        Letter::Told => b'T',
-        Letter::Marred => b'M',
-    }
-}
-
-// What the last answer of a run adds to its line.
-fn last_detail(last: Option<Result<Answer, StepRefusal>>) -> Option<Piece>
-    ensures piece { result ≡ last_detail last }
-    ensures small { IfSome result (λ p. widest p ≤ 20) }
-{
-    match last {
-        None => None,
-        Some(Err(refusal)) => Some(Piece::Decimal(u64::from(refusal.fault.number()))),
-        Some(Ok(answer)) => match (answer.told, answer.ended) {
-            (Some(address), _) => Some(Piece::Hex4(address)),
-            (None, Some(VisitEnd::Marred(mar))) => Some(Piece::Decimal(u64::from(mar.number()))),
-            (None, _) => None,
-        },
-    }
-}
-
-fn put_run(out: &mut [u8], report: Report, pc: u16) -> usize
-    requires { 512 ≤ length out.old }
-    ensures after { out.new ≡ over out.old 0 (joined (run_line report pc)) }
-    ensures size { result ≡ length (joined (run_line report pc)) }
-    ensures room { result ≤ 512 }
-{
-    let word = Piece::Word(*b"RU ");
-    let done = Piece::Decimal(u64::from(report.done));
-    let space = Piece::Byte(b' ');
-    let letter = Piece::Byte(letter_byte(report.letter));
-    let place = Piece::Hex4(pc);
-    let newline = Piece::Byte(b'\n');
-    match last_detail(report.last) {
-        Some(detail) => put_pieces(
-            out,
-            &[
-                word, done, space, letter, space, place, space, detail, newline,
-            ],
-        ),
-        None => put_pieces(out, &[word, done, space, letter, space, place, newline]),
-    }
-}
-
-fn ring_number(outcome: Result<(), StepRefusal>) -> u8
-    ensures { result ≡ ring_number outcome }
-{
-    match outcome {
-        Ok(()) => 0,
-        Err(refusal) => refusal.fault.number(),
-    }
-}
-
-fn put_ring(out: &mut [u8], outcome: Result<(), StepRefusal>, pc: u16) -> usize
-    requires { 512 ≤ length out.old }
-    ensures after { out.new ≡ over out.old 0 (joined (ring_line outcome pc)) }
-    ensures size { result ≡ length (joined (ring_line outcome pc)) }
-    ensures room { result ≤ 512 }
-{
-    let number = Piece::Decimal(u64::from(ring_number(outcome)));
-    put_pieces(
-        out,
-        &[
-            Piece::Word(*b"RI "),
-            number,
-            Piece::Byte(b' '),
-            Piece::Hex4(pc),
-            Piece::Byte(b'\n'),
-        ],
-    )
-}
-
 fn put_no(out: &mut [u8], fault: PlayFault) -> usize
     requires { 512 ≤ length out.old }
     ensures after { out.new ≡ over out.old 0 (joined (no_line fault)) }
@@ -202,8 +123,6 @@ pub fn put_lines(out: &mut [u8], outcome: Result<Event, PlayFault>) -> usize
     match outcome {
         Ok(Event::Loaded) => put_pieces(out, &[]),
         Ok(Event::Began) => put_pieces(out, &[]),
-        Ok(Event::Ran { report, pc }) => put_run(out, report, pc),
-        Ok(Event::Rang { outcome, pc }) => put_ring(out, outcome, pc),
         Ok(Event::Ended(read_out)) => put_end(out, read_out),
         Err(fault) => match fault.refusal {
             Refusal::Buffer => put_pieces(out, &[]),

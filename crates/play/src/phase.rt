@@ -1,11 +1,10 @@
 // How far the exchange on a tape has come, and what a record does there.
 ghost use Rattle.std.specs.Prelude.{◌≡◌, length};
 ghost use Rattle.engine.specs.Loads.{load_answer, load_after};
-ghost use Rattle.engine.specs.Runs.{run_outcome, run_after};
-ghost use Rattle.engine.specs.States.{in_service};
+ghost use Rattle.engine.specs.States.{live_state};
 ghost use Rattle.memory.specs.Pile.{meaning_of};
 ghost use Rattle.tape.specs.Records.{entry_of};
-ghost use Rattle.play.specs.Work.{stage_of, turn_of, cold, scene, load_outcome, run_event, work_of};
+ghost use Rattle.play.specs.Work.{stage_of, turn_of, cold, live, scene, load_outcome, work_of};
 
 use crate::fault::{Event, Refusal};
 use bus::Loadable;
@@ -64,50 +63,24 @@ fn work_cold(
             Err(refusal) => (Phase::Refused, Err(refusal)),
         },
         Record::Go { pc, return_pointer } => (
-            Phase::InService(exchange.go(memory, pc, return_pointer)),
+            Phase::InService(exchange.go(pc, return_pointer)),
             Ok(Event::Began),
         ),
-        _ => (Phase::Refused, Err(Refusal::Tape(TapeFault::OutOfTurn))),
+        Record::End => (Phase::Refused, Err(Refusal::Tape(TapeFault::OutOfTurn))),
     }
 }
 
-fn run_live(
-    exchange: &mut Live,
-    memory: &mut Memory,
-    sheet: &mut [u8],
-    steps: u16,
-) -> Result<Event, Refusal>
-    ensures outcome { result ≡ run_event (run_outcome steps (in_service exchange.old sheet.old (meaning_of memory.old))) (run_after steps (in_service exchange.old sheet.old (meaning_of memory.old))) }
-    ensures after { in_service exchange.new sheet.new (meaning_of memory.new) ≡ run_after steps (in_service exchange.old sheet.old (meaning_of memory.old)) }
-{
-    let report = exchange.run(memory, sheet, steps)?;
-    Ok(Event::Ran {
-        report,
-        pc: exchange.cpu.pc(),
-    })
-}
-
-// A live exchange runs, is rung, or ends.
+// A live exchange ends.
 fn work_live(
     exchange: Live,
     item: Record,
     memory: &mut Memory,
     sheet: &mut [u8],
 ) -> (Phase, Result<Event, Refusal>)
-    ensures outcome { result.1 ≡ (work_of (entry_of item.entry) (scene (stage_of (Phase.InService exchange)) sheet.old (meaning_of memory.old))).outcome }
-    ensures after { scene (stage_of result.0) sheet.new (meaning_of memory.new) ≡ (work_of (entry_of item.entry) (scene (stage_of (Phase.InService exchange)) sheet.old (meaning_of memory.old))).after }
+    ensures outcome { result.1 ≡ (work_of (entry_of item.entry) (scene (live (live_state exchange)) sheet.old (meaning_of memory.old))).outcome }
+    ensures after { scene (stage_of result.0) sheet.new (meaning_of memory.new) ≡ (work_of (entry_of item.entry) (scene (live (live_state exchange)) sheet.old (meaning_of memory.old))).after }
 {
-    let mut exchange = exchange;
     match item {
-        Record::Run { steps } => match run_live(&mut exchange, memory, sheet, steps) {
-            Ok(event) => (Phase::InService(exchange), Ok(event)),
-            Err(refusal) => (Phase::Refused, Err(refusal)),
-        },
-        Record::Ring { vector } => {
-            let outcome = exchange.ring(memory, sheet, u16::from(vector));
-            let pc = exchange.cpu.pc();
-            (Phase::InService(exchange), Ok(Event::Rang { outcome, pc }))
-        }
         Record::End => (Phase::Ended, Ok(Event::Ended(exchange.end()))),
         _ => (Phase::Refused, Err(Refusal::Tape(TapeFault::OutOfTurn))),
     }

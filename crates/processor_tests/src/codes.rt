@@ -1,5 +1,5 @@
 // Codes and what they stand for.
-use decode::{Base, Form, Instruction, Mode, Source, decode, is_legal};
+use decode::{Form, Instruction, Mode, Source, decode, is_legal};
 
 #[test]
 fn two_codes_are_illegal(rt: HostRuntime) {
@@ -20,25 +20,13 @@ fn a_store(rt: HostRuntime) {
     assert!(rt;
         matches!(
             decode(0xB2),
-            Some(Instruction::Store(
-                Mode::Memory {
-                    base: Base::Literal,
-                    indirect: false,
-                },
-                Form::Byte
-            ))
+            Some(Instruction::Store(Mode::LiteralDirect, Form::Byte))
         )
     );
     assert!(rt;
         matches!(
             decode(0xB3),
-            Some(Instruction::Store(
-                Mode::Memory {
-                    base: Base::Literal,
-                    indirect: false,
-                },
-                Form::Multi
-            ))
+            Some(Instruction::Store(Mode::LiteralDirect, Form::Multi))
         )
     );
     assert!(rt; matches!(decode(0x01), Some(Instruction::SetArp(Source::R0))));

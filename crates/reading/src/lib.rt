@@ -1,9 +1,9 @@
-// What an instruction asks of a bus: one byte after another, and whether its stores would be taken; each refusal with its
-// address, and the first stained address that is read noted on the way.
+// Reading a bus for an instruction: one byte after another, each refusal with its address, and the first stained address
+// that is read noted on the way.
 #![tactic(auto)]
 
 mod fault;
 mod reads;
 
 pub use fault::Fault;
-pub use reads::{inquire_stores, is_stained, read_byte, read_pair, read_row};
+pub use reads::{is_stained, read_byte, read_pair, read_row};

@@ -1,8 +1,7 @@
-// Reads one byte, a pair or a row, and inquires about stores.
+// Reads one byte, a pair or a row.
 ghost use Rattle.std.specs.Prelude.{◌≡◌, length};
-ghost use Rattle.reading.specs.Readings.{Reads, byte_tree, pair_tree, row_tree, row_with, row_got, stores_tree};
+ghost use Rattle.reading.specs.Readings.{Reads, byte_tree, pair_tree, row_tree, row_with, row_got};
 ghost use Rattle.reading.specs.Sheets.{stained};
-ghost use Rattle.reading.specs.Trees.{came};
 
 use crate::fault::Fault;
 use bus::Bus;
@@ -22,7 +21,7 @@ pub fn read_byte<B: Bus>(
     told: &mut Option<u16>,
     address: u16,
 ) -> Result<u8, Fault>
-    ensures { Reads (meaning bus.now) sheet.now (byte_tree address) told.old result told.new }
+    ensures { Reads (meaning bus.now).reads sheet.now (byte_tree address) told.old result told.new }
 {
     if told.is_none() && is_stained(sheet, address) {
         *told = Some(address);
@@ -40,7 +39,7 @@ pub fn read_pair<B: Bus>(
     told: &mut Option<u16>,
     address: u16,
 ) -> Result<u16, Fault>
-    ensures { Reads (meaning bus.now) sheet.now (pair_tree address) told.old result told.new }
+    ensures { Reads (meaning bus.now).reads sheet.now (pair_tree address) told.old result told.new }
 {
     let low = read_byte(bus, sheet, told, address)?;
     let high = read_byte(bus, sheet, told, address.wrapping_add(1))?;
@@ -55,29 +54,12 @@ pub fn read_row<B: Bus>(
     address: u16,
     row: &mut [u8],
 ) -> Result<(), Fault>
-    ensures read { Reads (meaning bus.now) sheet.now (row_tree (length row.old) address) told.old (row_with row.new result) told.new }
+    ensures read { Reads (meaning bus.now).reads sheet.now (row_tree (length row.old) address) told.old (row_with row.new result) told.new }
     ensures got { row.new ≡ row_got (meaning bus.now).reads address row.old }
 {
     let mut at = address;
     for (_i, byte) in row.iter_mut().enumerate() {
         *byte = read_byte(bus, sheet, told, at)?;
-        at = at.wrapping_add(1);
-    }
-    Ok(())
-}
-
-// Inquires about stores to n addresses upward; the first that would not be taken refuses.
-pub fn inquire_stores<B: Bus>(bus: &B, address: u16, n: usize) -> Result<(), Fault>
-    ensures { result ≡ came (meaning bus.now) (stores_tree n address) }
-{
-    let mut at = address;
-    for _i in 0..n {
-        if let Err(refusal) = bus.inquire(at) {
-            return Err(Fault::Bus {
-                address: at,
-                refusal,
-            });
-        }
         at = at.wrapping_add(1);
     }
     Ok(())

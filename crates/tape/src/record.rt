@@ -1,6 +1,6 @@
 // Records, and how they are read off the front of a tape.
 ghost use Rattle.std.specs.Prelude.{◌≡◌, ◌+◌, ◌^◌, ◌<◌, ◌≤◌, length, IfOk};
-ghost use Rattle.tape.specs.Records.{entry_of, entry, size_of, tape_number, mark_of, admit_of, fields_of, load_of, go_of, run_of, ring_of, record_of};
+ghost use Rattle.tape.specs.Records.{entry_of, entry, size_of, tape_number, mark_of, admit_of, fields_of, load_of, go_of, record_of};
 
 // A load holds its bytes as a part of the tape, which begins at the offset.
 #[derive(Clone, Copy)]
@@ -14,12 +14,6 @@ pub enum Record<'a> {
         pc: u16,
         return_pointer: u16,
     },
-    Run {
-        steps: u16,
-    },
-    Ring {
-        vector: u8,
-    },
     End,
 }
 
@@ -27,8 +21,6 @@ pub enum Record<'a> {
 pub enum Mark {
     Load,
     Go,
-    Run,
-    Ring,
     End,
 }
 
@@ -69,8 +61,6 @@ impl Record<'_> {
         match self {
             Record::Load { bytes, .. } => 5 + bytes.len(),
             Record::Go { .. } => 6,
-            Record::Run { .. } => 4,
-            Record::Ring { .. } => 3,
             Record::End => 2,
         }
     }
@@ -83,8 +73,6 @@ fn find_mark(rest: &[u8]) -> Result<Option<Mark>, TapeFault>
     match rest {
         [b'L', b'D', ..] => Ok(Some(Mark::Load)),
         [b'G', b'O', ..] => Ok(Some(Mark::Go)),
-        [b'R', b'U', ..] => Ok(Some(Mark::Run)),
-        [b'R', b'I', ..] => Ok(Some(Mark::Ring)),
         [b'E', b'N', ..] => Ok(Some(Mark::End)),
         [_, _, ..] => Err(TapeFault::UnknownMark),
         _ => Ok(None),
@@ -100,8 +88,6 @@ fn admit(turn: Turn, mark: Option<Mark>) -> Result<Mark, TapeFault>
         (_, None) => Err(TapeFault::CutOff),
         (Turn::Cold, Some(Mark::Load)) => Ok(Mark::Load),
         (Turn::Cold, Some(Mark::Go)) => Ok(Mark::Go),
-        (Turn::Live, Some(Mark::Run)) => Ok(Mark::Run),
-        (Turn::Live, Some(Mark::Ring)) => Ok(Mark::Ring),
         (Turn::Live, Some(Mark::End)) => Ok(Mark::End),
         (_, Some(_)) => Err(TapeFault::OutOfTurn),
     }
@@ -135,28 +121,6 @@ fn go_fields<'a>(fields: &'a [u8]) -> Result<Record<'a>, TapeFault>
     }
 }
 
-fn run_fields<'a>(fields: &'a [u8]) -> Result<Record<'a>, TapeFault>
-    ensures entry { entry result ≡ run_of fields.now }
-    ensures within { IfOk result (λ x. size_of (entry_of x) ≤ 2 + length fields.now) }
-{
-    match fields {
-        [low, high, ..] => Ok(Record::Run {
-            steps: u16::from_le_bytes([*low, *high]),
-        }),
-        _ => Err(TapeFault::CutOff),
-    }
-}
-
-fn ring_fields<'a>(fields: &'a [u8]) -> Result<Record<'a>, TapeFault>
-    ensures entry { entry result ≡ ring_of fields.now }
-    ensures within { IfOk result (λ x. size_of (entry_of x) ≤ 2 + length fields.now) }
-{
-    match fields {
-        [vector, ..] => Ok(Record::Ring { vector: *vector }),
-        _ => Err(TapeFault::CutOff),
-    }
-}
-
 fn read_fields<'a>(mark: Mark, at: usize, fields: &'a [u8]) -> Result<Record<'a>, TapeFault>
     requires { at + length fields.now < 2 ^ 64 }
     ensures entry { entry result ≡ fields_of mark at fields.now }
@@ -165,8 +129,6 @@ fn read_fields<'a>(mark: Mark, at: usize, fields: &'a [u8]) -> Result<Record<'a>
     match mark {
         Mark::Load => load_fields(at, fields),
         Mark::Go => go_fields(fields),
-        Mark::Run => run_fields(fields),
-        Mark::Ring => ring_fields(fields),
         Mark::End => Ok(Record::End),
     }
 }

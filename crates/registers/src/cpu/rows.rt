@@ -1,5 +1,5 @@
 // Registers, pairs and rows of them. Register numbers wrap modulo 64.
-ghost use Rattle.std.specs.Prelude.{◌≡◌, ◌≤◌, length};
+ghost use Rattle.std.specs.Prelude.{◌≡◌, length};
 ghost use Rattle.registers.specs.Model.{state_of};
 ghost use Rattle.registers.specs.Rows.{register_at, pair_at, row_at, with_pair, with_row, span_of};
 
@@ -7,16 +7,15 @@ use crate::cpu::Cpu;
 
 // How many registers a form works on: one for a byte form; for a multi form those up to the next boundary, which below
 // R40 lies at every second register, and from R40 on at every eighth.
-pub fn span(multi: bool, drp: u8) -> u8
-    ensures value { result ≡ span_of multi drp }
-    ensures few { result ≤ 8 }
+pub fn span(multi: bool, drp: u8) -> usize
+    ensures { result ≡ span_of multi drp }
 {
     if !multi {
         1
     } else if drp < 32 {
-        2 - drp % 2
+        2 - usize::from(drp % 2)
     } else {
-        8 - drp % 8
+        8 - usize::from(drp % 8)
     }
 }
 
