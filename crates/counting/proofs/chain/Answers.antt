@@ -8,7 +8,7 @@ pub loop-i-init : goal.loop-i-init
 loop-i-init g c = linking_none _ _ _ _ _
 
 pub loop-i-preserved : goal.loop-i-preserved
-loop-i-preserved g c = linking_more _ _ _ _ _ _ _ _ _ _ _ (omega arith) c.byte-at.ensures c.link-bytes-byte.ensures c.loop-i.invariant
+loop-i-preserved g c = linking_more _ _ _ _ _ _ _ _ _ _ _ (omega arith) c.byte_at.ensures c.link_bytes-byte.ensures c.loop-i.invariant
 
 pub returns : goal.returns
 returns g c =
