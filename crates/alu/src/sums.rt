@@ -22,13 +22,13 @@ fn turns(a: bool, b: bool, sum: bool) -> bool
 }
 
 // The signs of the two numbers whose sum the link gives, and whether it gives one.
-fn overflows(op: Link, a: bool, b: bool, res: bool) -> bool
-    ensures { result ≡ signs_of op a b res }
+fn overflows(op: Link, a: bool, b: bool, outcome: bool) -> bool
+    ensures { result ≡ signs_of op a b outcome }
 {
     match op {
-        Link::Add => turns(a, b, res),
-        Link::Subtract => turns(a, !b, res),
-        Link::Negate => turns(false, !a, res),
+        Link::Add => turns(a, b, outcome),
+        Link::Subtract => turns(a, !b, outcome),
+        Link::Negate => turns(false, !a, outcome),
         Link::Complement => false,
     }
 }

@@ -6,7 +6,7 @@ pub loop-i-init : goal.loop-i-init
 loop-i-init c = refl
 
 pub loop-i-preserved : goal.loop-i-preserved
-loop-i-preserved c = joining_more _ _ _ _ _ _ _ (omega arith) c.byte-at.ensures c.join-bytes.ensures c.loop-i.invariant
+loop-i-preserved c = joining_more _ _ _ _ _ _ _ (omega arith) c.byte_at.ensures c.join_bytes.ensures c.loop-i.invariant
 
 pub returns : goal.returns
 returns c = joining_all _ _ _ _ c.loop-i.i (omega arith) c.loop-i.invariant

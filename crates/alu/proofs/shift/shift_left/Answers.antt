@@ -17,7 +17,7 @@ returns c =
     let xs = c.args.bytes.now in
     let k = c.radix-radix.ensures.value in
     let m : c.from.result % c.radix-radix.result ≡ c.args.incoming % radix_of c.args.unit = λ z. c.from.ensures z % k z in
-    let all = rising_all _ _ _ _ c.loop-i.-i _ (omega arith) c.loop-i.invariant in
+    let all = rising_all _ _ _ _ c.loop-i._i _ (omega arith) c.loop-i.invariant in
     let row = all.0 ∙ (λ z. left_row (k z) xs (m z)) in
     let out = all.1 ∙ (λ z. left_out (k z) xs (m z)) in
     record { row = row; out = out; small = subst (λ n. c.loop-i.carry < n) k c.loop-i.invariant.below; whole = (λ z. number binary (row z) + 256 ^ length xs * out z) ∙ left_whole (radix_of c.args.unit) xs (c.args.incoming % radix_of c.args.unit) }

@@ -9,8 +9,8 @@ use Rattle.alu.proofs.shift.shift_right.Goals as goal
 pub loop-i-init : goal.loop-i-init
 loop-i-init c = falling_none _ _ _ _ (le_refl _) (mod_below _ c.radix-radix.result (omega (arith, c.radix-radix.ensures.some)))
 
-pub overflow-cast-bytes : goal.overflow-cast-bytes
-overflow-cast-bytes c =
+pub overflow_cast-bytes : goal.overflow_cast-bytes
+overflow_cast-bytes c =
     let byte : c.from-in-loop-i.result < 256 = search rules in
     record { fits = right_kept c.from-in-loop-i.result c.radix-radix.result c.loop-i.carry byte c.loop-i.invariant.below }
 

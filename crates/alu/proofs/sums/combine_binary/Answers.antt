@@ -16,5 +16,5 @@ returns c =
     record {
       row = row;
       carry = c.chain-carry.ensures.carry;
-      overflow = c.overflows.ensures ∙ (λ z. signs_of c.args.op (c.is-negative-a.ensures z) (c.is-negative-b.ensures z) (c.is-negative-result.ensures z)) ∙ signs_tell c.args.op xs ys c.chain-carry.new.bytes hx hy row;
+      overflow = c.overflows.ensures ∙ (λ z. signs_of c.args.op (c.is_negative-a.ensures z) (c.is_negative-b.ensures z) (c.is_negative-result.ensures z)) ∙ signs_tell c.args.op xs ys c.chain-carry.new.bytes hx hy row;
     }
