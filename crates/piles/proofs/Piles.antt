@@ -1,5 +1,5 @@
 -- Every pile is a bus, however high. By induction on its layers.
-use Rattle.std.proofs.Common.{◌≡◌, ℕ, suc, ◌+◌, ◌≤◌, min, Bool, true, false, cond, eqb, ltb, Some, None, Ok, Err, Option, Result, refl, ap, ◌∙◌, arith}
+use Rattle.std.proofs.Common.{◌≡◌, ℕ, suc, ◌+◌, ◌≤◌, min, Bool, true, false, cond, eqb, ltb, Some, None, Ok, Err, Option, Result, refl, sym, ap, ◌∙◌, arith}
 use Rattle.std.proofs.lemmas.Bool.Decides.{nat_tests}
 use Rattle.bus.specs.declared.refusal.BusRefusal.{BusRefusal}
 use Rattle.bus.specs.declared.refusal.Cause.TheVariants.{Guarded, OutsideShadow}
@@ -75,6 +75,13 @@ high_lift (Ok x) at m n a b h = same_meaning _ _ (λ y. other_stored (ltb y at) 
 split_by : (v : Bool) (at : ℕ) (p p' q q' : Layered) (a b : ℕ) → ltb a at ≡ v → pile_meaning p' ≡ after (pile_meaning p) a b → pile_meaning q' ≡ after (pile_meaning q) a b → pile_meaning (split at (cond v p' p) (cond v q q')) ≡ if_ok (raised (cond v ((pile_meaning p).takes a) ((pile_meaning q).takes a))) (stored (split_meaning at (pile_meaning p) (pile_meaning q)) a b) (split_meaning at (pile_meaning p) (pile_meaning q))
 split_by true at p p' q q' a b v h k = ap (λ m. split_meaning at m (pile_meaning q)) h ∙ low_lift ((pile_meaning p).takes a) at (pile_meaning p) (pile_meaning q) a b v
 split_by false at p p' q q' a b v h k = ap (split_meaning at (pile_meaning p)) k ∙ high_lift ((pile_meaning q).takes a) at (pile_meaning p) (pile_meaning q) a b v
+
+-- what a store to one side of a split leaves of the whole
+pub low_after : (at : ℕ) (m m' n : Meaning) (a b : ℕ) → ltb a at ≡ true → m' ≡ after m a b → split_meaning at m' n ≡ after (split_meaning at m n) a b
+low_after at m m' n a b h e = ap (λ x. split_meaning at x n) e ∙ low_lift (m.takes a) at m n a b h ∙ ap (λ v. if_ok (raised (cond v (m.takes a) (n.takes a))) (stored (split_meaning at m n) a b) (split_meaning at m n)) (sym h)
+
+pub high_after : (at : ℕ) (m n n' : Meaning) (a b : ℕ) → ltb a at ≡ false → n' ≡ after n a b → split_meaning at m n' ≡ after (split_meaning at m n) a b
+high_after at m n n' a b h e = ap (split_meaning at m) e ∙ high_lift (n.takes a) at m n a b h ∙ ap (λ v. if_ok (raised (cond v (m.takes a) (n.takes a))) (stored (split_meaning at m n) a b) (split_meaning at m n)) (sym h)
 
 stores_law : (p : Layered) (a b : ℕ) → pile_meaning (put p a b) ≡ after (pile_meaning p) a b
 stores_law (bottom m r) a b = refl

@@ -1,5 +1,5 @@
 use Rattle.piles.proofs.pile.Pile.TheLaws.{the_size}
 use Rattle.piles.proofs.pile.+inquire_pile.Given as goal
 
-abbrev pub decreases-inquire-pile : goal.decreases-inquire-pile
-decreases-inquire-pile g l = the_size g.row.B g.B.laws l.pile.now
+abbrev pub decreases-inquire_pile : goal.decreases-inquire_pile
+decreases-inquire_pile g l = the_size g.row.B g.B.laws l.pile.now

@@ -1,9 +1,11 @@
-use Rattle.std.proofs.Common.{sym, ap, ◌∙◌, rules}
+use Rattle.std.proofs.Common.{◌≡◌, true, false, ltb, sym, ap, ◌∙◌, arith, rules}
+use Rattle.std.proofs.lemmas.Bool.Decides.{nat_tests}
 use Rattle.bus.specs.Meaning.{after}
 use Rattle.layers.specs.Pages.{kept_of}
 use Rattle.piles.specs.Built.{built}
 use Rattle.piles.specs.Piles.{pile_meaning}
 use Rattle.layers.proofs.Stores.{shadow_stored}
+use Rattle.piles.proofs.Piles.{low_after, high_after}
 use Rattle.piles.proofs.pile.+store_pile.Goals as goal
 
 pub returns-in-Shadow : goal.returns-in-Shadow
@@ -13,6 +15,26 @@ returns-in-Shadow g t c =
     let m = pile_meaning (built g.B.Bus.meaning g.B.Bus.rules c.in-Shadow.below.value) in
     record {
       answer = search rules;
-      after = shadow_stored page.number _ (kept_of page) _ m c.read-boxed-below.result c.args.address c.args.byte (search rules) p.number p.kept ∙ sym (ap (λ q. after (pile_meaning (built g.B.Bus.meaning g.B.Bus.rules q)) c.args.address c.args.byte) c.in-Shadow.is);
+      after = shadow_stored page.number _ (kept_of page) _ m c.read_boxed-below.result c.args.address c.args.byte (search rules) p.number p.kept ∙ sym (ap (λ q. after (pile_meaning (built g.B.Bus.meaning g.B.Bus.rules q)) c.args.address c.args.byte) c.in-Shadow.is);
       held = search rules;
     }
+
+pub returns-then-address-at-clause-after : goal.returns-then-address-at-clause-after
+returns-then-address-at-clause-after g t c =
+    let s = c.in-Split in
+    let a = c.args.address in
+    let b = c.args.byte in
+    let low = pile_meaning (built g.B.Bus.meaning g.B.Bus.rules s.low.value) in
+    let high = pile_meaning (built g.B.Bus.meaning g.B.Bus.rules s.high.value) in
+    let under : ltb a s.at ≡ true = grind (arith, nat_tests) in
+    low_after s.at low _ high a b under (c.store_pile-then-address-at.ensures.after ∙ ap (λ q. after (pile_meaning (built g.B.Bus.meaning g.B.Bus.rules q)) a b) c.deref_mut-then-address-at.ensures.value) ∙ sym (ap (λ q. after (pile_meaning (built g.B.Bus.meaning g.B.Bus.rules q)) a b) s.is)
+
+pub returns-else-address-at-clause-after : goal.returns-else-address-at-clause-after
+returns-else-address-at-clause-after g t c =
+    let s = c.in-Split in
+    let a = c.args.address in
+    let b = c.args.byte in
+    let low = pile_meaning (built g.B.Bus.meaning g.B.Bus.rules s.low.value) in
+    let high = pile_meaning (built g.B.Bus.meaning g.B.Bus.rules s.high.value) in
+    let past : ltb a s.at ≡ false = grind (arith, nat_tests) in
+    high_after s.at low high _ a b past (c.store_pile-else-address-at.ensures.after ∙ ap (λ q. after (pile_meaning (built g.B.Bus.meaning g.B.Bus.rules q)) a b) c.deref_mut-else-address-at.ensures.value) ∙ sym (ap (λ q. after (pile_meaning (built g.B.Bus.meaning g.B.Bus.rules q)) a b) s.is)
