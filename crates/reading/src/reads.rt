@@ -21,7 +21,7 @@ pub fn read_byte<B: Bus>(
     told: &mut Option<u16>,
     address: u16,
 ) -> Result<u8, Fault>
-    ensures { Reads (meaning bus.now).reads sheet.now (byte_tree address) told.old result told.new }
+    ensures { Reads (B.Bus.meaning bus.now).reads sheet.now (byte_tree address) told.old result told.new }
 {
     if told.is_none() && is_stained(sheet, address) {
         *told = Some(address);
@@ -39,7 +39,7 @@ pub fn read_pair<B: Bus>(
     told: &mut Option<u16>,
     address: u16,
 ) -> Result<u16, Fault>
-    ensures { Reads (meaning bus.now).reads sheet.now (pair_tree address) told.old result told.new }
+    ensures { Reads (B.Bus.meaning bus.now).reads sheet.now (pair_tree address) told.old result told.new }
 {
     let low = read_byte(bus, sheet, told, address)?;
     let high = read_byte(bus, sheet, told, address.wrapping_add(1))?;
@@ -54,8 +54,8 @@ pub fn read_row<B: Bus>(
     address: u16,
     row: &mut [u8],
 ) -> Result<(), Fault>
-    ensures read { Reads (meaning bus.now).reads sheet.now (row_tree (length row.old) address) told.old (row_with row.new result) told.new }
-    ensures got { row.new ≡ row_got (meaning bus.now).reads address row.old }
+    ensures read { Reads (B.Bus.meaning bus.now).reads sheet.now (row_tree (length row.old) address) told.old (row_with row.new result) told.new }
+    ensures got { row.new ≡ row_got (B.Bus.meaning bus.now).reads address row.old }
 {
     let mut at = address;
     for (_i, byte) in row.iter_mut().enumerate() {
