@@ -1,7 +1,7 @@
 // Lines of text, written piece by piece to the front of a lent buffer. Nothing is allocated.
 #![tactic(auto)]
 
-ghost use Rattle.std.specs.Prelude.{◌≡◌, ◌+◌, ◌-◌, ◌*◌, ◌/◌, ◌%◌, ◌<◌, ◌≤◌, leb, length, is_some, IfSome, if◌then◌else◌, Some, None, decimal, nat_le};
+ghost use Rattle.std.specs.Prelude.{◌≡◌, ◌+◌, ◌-◌, ◌*◌, ◌/◌, ◌%◌, ◌<◌, ◌≤◌, length, is_some, IfSome, if◌then◌else◌, Some, None, decimal, nat_le};
 ghost use Rattle.byte_rows.specs.Rows.{over};
 ghost use Rattle.text.specs.Pieces.{hex_digit, spelled, joined, widest, room, apart, one_apart};
 
@@ -26,7 +26,7 @@ pub enum Piece {
 // Writes the pieces one after another at the front of the buffer, and says how many bytes they take. Where the buffer
 // is smaller than the pieces may be at their widest, nothing is written.
 pub fn put(out: &mut [u8], pieces: &[Piece]) -> Option<usize>
-    ensures answer { result ≡ (if leb (room pieces.now) (length out.old) then Some (length (joined pieces.now)) else None) }
+    ensures answer { result ≡ (if nat_le (room pieces.now) (length out.old) then Some (length (joined pieces.now)) else None) }
     ensures after { out.new ≡ (if is_some result then over out.old 0 (joined pieces.now) else out.old) }
     ensures room { IfSome result (λ n. n ≤ room pieces.now) }
 {

@@ -6,14 +6,14 @@ use Rattle.text.specs.declared.Piece.TheVariants.{Byte}
 use Rattle.text.proofs.Writing.{left_more, joined_more, joined_all, room_more}
 use Rattle.text.proofs.put_all.Goals as goal
 
-pub put-piece-at-requires : goal.put-piece-at-requires
-put-piece-at-requires c = omega (arith, c.loop-piece.auto.out, c.loop-piece.invariant.1, room_more c.args.pieces.now c.loop-piece.piece-index (omega arith))
+pub put_piece-at-requires : goal.put_piece-at-requires
+put_piece-at-requires c = omega (arith, c.loop-piece.auto.out, c.loop-piece.invariant.1, room_more c.args.pieces.now c.loop-piece.piece-index (omega arith))
 
 pub loop-piece-preserved : goal.loop-piece-preserved
 loop-piece-preserved c =
     let more = room_more c.args.pieces.now c.loop-piece.piece-index (omega arith) in (
-      left_more (spelled (get_or c.args.pieces.now c.loop-piece.piece-index (Byte 0))) _ _ c.loop-piece.invariant.0 (joined_more c.args.pieces.now c.loop-piece.piece-index (omega arith)) c.put-piece-at.ensures.after c.put-piece-at.ensures.place,
-      omega (arith, more, c.put-piece-at.ensures.room, c.loop-piece.invariant.1),
+      left_more (spelled (get_or c.args.pieces.now c.loop-piece.piece-index (Byte 0))) _ _ c.loop-piece.invariant.0 (joined_more c.args.pieces.now c.loop-piece.piece-index (omega arith)) c.put_piece-at.ensures.after c.put_piece-at.ensures.place,
+      omega (arith, more, c.put_piece-at.ensures.room, c.loop-piece.invariant.1),
     )
 
 pub returns : goal.returns

@@ -10,6 +10,6 @@ returns c =
     let tape = c.args.self.now.tape.now in
     let place = c.args.self.now.place in
     record {
-      entry = c.record-at.ensures.entry ∙ ap (record_of c.args.turn place) (take_rest tape place);
-      within = IfOk-weaker c.record-at.result _ _ (λ x h. omega (arith, part_length tape place, c.args.self.now.within)) c.record-at.ensures.within;
+      entry = c.record_at.ensures.entry ∙ ap (record_of c.args.turn place) (take_rest tape place);
+      within = IfOk-weaker c.record_at.result _ _ (λ x h. omega (arith, part_length tape place, c.args.self.now.within)) c.record_at.ensures.within;
     }
