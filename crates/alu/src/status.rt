@@ -36,6 +36,7 @@ pub fn last_byte(row: &[u8]) -> u8
 }
 
 // The sign of the row's first n bytes, which goes on with zero bytes.
+#[tactic(auto, using(crate::proofs::Seeing::sized_last_at))]
 pub fn is_negative(row: &[u8], n: usize) -> bool
     ensures { result ≡ nat_le 128 (last_of (sized n row.now)) }
 {
