@@ -1,5 +1,5 @@
 -- Sums and differences in the counting of the mode.
-use Rattle.std.specs.Prelude.{ℕ, Bool, true, false, not, List, length, ℤ, pos, ◌+ℤ◌, ◌-ℤ◌}
+use Rattle.std.specs.Prelude.{ℕ, Bool, true, false, not, List, length, pos, ◌+ℤ◌, ◌-ℤ◌}
 use Rattle.counting.specs.declared.Link.{Link}
 use Rattle.counting.specs.declared.Link.TheVariants.{Add, Subtract, Negate, Complement}
 use Rattle.counting.specs.Binary.{binary}
