@@ -33,16 +33,16 @@ impl Refusal {
 impl From<TapeFault> for Refusal {
     ghost from_gives = { λ fault r. r ≡ Tape fault };
 
-    fn from(fault: TapeFault) -> Refusal {
-        Refusal::Tape(fault)
+    fn from(below: TapeFault) -> Refusal {
+        Refusal::Tape(below)
     }
 }
 
 impl From<LoadFault> for Refusal {
     ghost from_gives = { λ fault r. r ≡ Load fault };
 
-    fn from(fault: LoadFault) -> Refusal {
-        Refusal::Load(fault)
+    fn from(below: LoadFault) -> Refusal {
+        Refusal::Load(below)
     }
 }
 

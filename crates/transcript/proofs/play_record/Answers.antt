@@ -18,5 +18,5 @@ returns c =
     record {
       same = p.tape;
       after = p.after ∙ ap (λ n. (play_of n tape w).after) c.requires;
-      lines = c.in-ok-extend-from-slice.ensures.items ∙ ap (λ l. vec_items c.args.text.now ++ l) e;
+      lines = c.in_ok-extend_from_slice.ensures.items ∙ ap (λ l. vec_items c.args.text.now ++ l) e;
     }

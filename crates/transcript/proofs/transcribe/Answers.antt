@@ -16,19 +16,19 @@ cut tape size e =
     let n = length-take 16384 tape in
     ap (λ m. take m tape) k ∙ sym (take-take size 16384 tape (omega arith)) ∙ take_all size (take 16384 tape) (omega arith)
 
-pub returns-in-err-memory : goal.returns-in-err-memory
-returns-in-err-memory c = record { made = search rules; to_the_end = every_record_is_played }
+pub returns-in_err-memory : goal.returns-in_err-memory
+returns-in_err-memory c = record { made = search rules; to_the_end = every_record_is_played }
 
-pub returns-in-err-sheet : goal.returns-in-err-sheet
-returns-in-err-sheet c = record { made = search rules; to_the_end = every_record_is_played }
+pub returns-in_err-sheet : goal.returns-in_err-sheet
+returns-in_err-sheet c = record { made = search rules; to_the_end = every_record_is_played }
 
 pub returns : goal.returns
 returns c =
     let p = c.new-player in
-    let s = c.deref-mut.ensures.value ∙ is_zeros 8192 _ (c.in-ok-sheet.ensures.items-if-clones-equal (λ y e. e)) in
-    let m = c.in-ok-memory.ensures.made in
+    let s = c.deref_mut.ensures.value ∙ is_zeros 8192 _ (c.in_ok-sheet.ensures.items_if_clones_equal (λ y e. e)) in
+    let m = c.in_ok-memory.ensures.made in
     let size = c.min-size.result in
     let n : size + 1 ≡ length (take 16384 c.args.tape.now) + 1 = omega (arith, c.min-size.ensures, length-take 16384 c.args.tape.now) in
     let t = p.ensures.tape ∙ cut c.args.tape.now size c.min-size.ensures in
-    let all : vec_items c.new-2.result ++ printed (size + 1) (tape_of p.result) (world_of p.result c.deref-mut.result.now (meaning_of c.in-ok-memory.memory)) ≡ transcript_of (take 16384 c.args.tape.now) = λ i. c.new-2.ensures.items i ++ printed (n i) (t i) (world (scene (p.ensures.stage i) (s i) (m i)) (p.ensures.place i)) in
-    record { made = IfOk-weaker c.play-records.result _ _ (λ v h. h ∙ all) c.play-records.ensures; to_the_end = every_record_is_played }
+    let all : vec_items c.new-2.result ++ printed (size + 1) (tape_of p.result) (world_of p.result c.deref_mut.result.now (meaning_of c.in_ok-memory.memory)) ≡ transcript_of (take 16384 c.args.tape.now) = λ i. c.new-2.ensures.items i ++ printed (n i) (t i) (world (scene (p.ensures.stage i) (s i) (m i)) (p.ensures.place i)) in
+    record { made = IfOk-weaker c.play_records.result _ _ (λ v h. h ∙ all) c.play_records.ensures; to_the_end = every_record_is_played }

@@ -15,10 +15,10 @@ lines_with o s a b c d e f g h =
 
 pub returns : goal.returns
 returns c =
-    let o = c.args.read-out in
+    let o = c.args.read_out in
     let e : lines_with o c.byte.result c.row.result c.row-2.result c.row-3.result c.row-4.result c.row-5.result c.row-6.result c.row-7.result c.row-8.result ≡ end_lines o = λ i. lines_with o (c.byte.ensures i) (c.row.ensures i) (c.row-2.ensures i) (c.row-3.ensures i) (c.row-4.ensures i) (c.row-5.ensures i) (c.row-6.ensures i) (c.row-7.ensures i) (c.row-8.ensures i) in
     record {
-      after = c.put-pieces.ensures.after ∙ ap (λ ps. over c.args.out.now 0 (joined ps)) e;
-      size = c.put-pieces.ensures.size ∙ ap (λ ps. length (joined ps)) e;
-      room = c.put-pieces.ensures.room;
+      after = c.put_pieces.ensures.after ∙ ap (λ ps. over c.args.out.now 0 (joined ps)) e;
+      size = c.put_pieces.ensures.size ∙ ap (λ ps. length (joined ps)) e;
+      room = c.put_pieces.ensures.room;
     }
