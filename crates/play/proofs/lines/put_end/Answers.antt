@@ -3,7 +3,7 @@ use Rattle.byte_rows.specs.Rows.{over}
 use Rattle.engine.specs.declared.live.ReadOut.{ReadOut}
 use Rattle.text.specs.declared.Piece.{Piece}
 use Rattle.text.specs.declared.Piece.TheVariants.{Byte, Word, Octal2, Hex1, Hex2}
-use Rattle.text.specs.Pieces.{joined, room}
+use Rattle.text.specs.Pieces.{joined}
 use Rattle.play.specs.Lines.{end_lines, register_line}
 use Rattle.play.proofs.lines.put_end.Goals as goal
 
