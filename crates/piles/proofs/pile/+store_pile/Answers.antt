@@ -1,4 +1,4 @@
-use Rattle.std.proofs.Common.{◌≡◌, true, false, ltb, sym, ap, ◌∙◌, arith, rules}
+use Rattle.std.proofs.Common.{sym, ap, ◌∙◌, rules}
 use Rattle.std.proofs.lemmas.Bool.Decides.{nat_tests}
 use Rattle.bus.specs.Meaning.{after}
 use Rattle.layers.specs.Pages.{kept_of}
@@ -20,21 +20,7 @@ returns-in-Shadow g t c =
     }
 
 pub returns-then-address-at-clause-after : goal.returns-then-address-at-clause-after
-returns-then-address-at-clause-after g t c =
-    let s = c.in-Split in
-    let a = c.args.address in
-    let b = c.args.byte in
-    let low = pile_meaning (built g.B.Bus.meaning g.B.Bus.rules s.low.value) in
-    let high = pile_meaning (built g.B.Bus.meaning g.B.Bus.rules s.high.value) in
-    let under : ltb a s.at ≡ true = grind (arith, nat_tests) in
-    low_after s.at low _ high a b under (c.store_pile-then-address-at.ensures.after ∙ ap (λ q. after (pile_meaning (built g.B.Bus.meaning g.B.Bus.rules q)) a b) c.deref_mut-then-address-at.ensures.value) ∙ sym (ap (λ q. after (pile_meaning (built g.B.Bus.meaning g.B.Bus.rules q)) a b) s.is)
+returns-then-address-at-clause-after g t c = search (rules, nat_tests, low_after)
 
 pub returns-else-address-at-clause-after : goal.returns-else-address-at-clause-after
-returns-else-address-at-clause-after g t c =
-    let s = c.in-Split in
-    let a = c.args.address in
-    let b = c.args.byte in
-    let low = pile_meaning (built g.B.Bus.meaning g.B.Bus.rules s.low.value) in
-    let high = pile_meaning (built g.B.Bus.meaning g.B.Bus.rules s.high.value) in
-    let past : ltb a s.at ≡ false = grind (arith, nat_tests) in
-    high_after s.at low high _ a b past (c.store_pile-else-address-at.ensures.after ∙ ap (λ q. after (pile_meaning (built g.B.Bus.meaning g.B.Bus.rules q)) a b) c.deref_mut-else-address-at.ensures.value) ∙ sym (ap (λ q. after (pile_meaning (built g.B.Bus.meaning g.B.Bus.rules q)) a b) s.is)
+returns-else-address-at-clause-after g t c = search (rules, nat_tests, high_after)
