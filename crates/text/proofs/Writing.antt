@@ -45,3 +45,7 @@ room_all ps k h = at_drop_all room ps k h
 
 pub apart_more : (bs : List ℕ) (k : ℕ) → k < length bs → apart (drop k bs) ≡ one_apart (get_or bs k 0) ++ apart (drop (k + 1) bs)
 apart_more bs k h = at_drop_more apart bs k 0 h
+
+-- one piece more is written
+pub left_joined : (d e e' : List ℕ) (i j j' k : ℕ) (ps : List Piece) → k < length ps → Left d i (joined ps) e j (joined (drop k ps)) → e' ≡ over e j (spelled (get_or ps k (Byte 0))) → j' ≡ j + length (spelled (get_or ps k (Byte 0))) → Left d i (joined ps) e' j' (joined (drop (k + 1) ps))
+left_joined d e e' i j j' k ps h f a b = left_more (spelled (get_or ps k (Byte 0))) _ _ f (joined_more ps k h) a b

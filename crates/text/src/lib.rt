@@ -37,6 +37,7 @@ pub fn put(out: &mut [u8], pieces: &[Piece]) -> Option<usize>
 }
 
 // Whether the pieces fit, at their widest.
+#[tactic(auto, using(crate::proofs::Writing::room_more, crate::proofs::Writing::room_all))]
 fn fits(size: usize, pieces: &[Piece]) -> bool
     ensures { result ≡ nat_le (room pieces.now) size }
 {
@@ -66,6 +67,7 @@ fn widest_of(piece: Piece) -> usize
     }
 }
 
+#[tactic(auto, using(crate::proofs::Writing::left_joined, crate::proofs::Writing::joined_all, crate::proofs::Writing::room_more, byte_rows::proofs::Writing::over_none))]
 fn put_all(out: &mut [u8], pieces: &[Piece]) -> usize
     requires { room pieces.now ≤ length out.old }
     ensures after { out.new ≡ over out.old 0 (joined pieces.now) }
@@ -107,6 +109,7 @@ fn put_bytes(out: &mut [u8], at: usize, bytes: &[u8]) -> usize
     at + bytes.len()
 }
 
+#[tactic(auto, using(std::proofs::lemmas::Fmt::decimal_digit, crate::proofs::Writing::decimal_last, crate::proofs::Writing::decimal_length))]
 fn put_decimal(out: &mut [u8], at: usize, n: u64) -> usize
     requires { at + 20 ≤ length out.old }
     ensures after { out.new ≡ over out.old at (decimal n) }

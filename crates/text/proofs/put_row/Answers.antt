@@ -1,4 +1,4 @@
-use Rattle.std.proofs.Common.{◌+◌, length, get_or, sym, ap, ◌∙◌, arith}
+use Rattle.std.proofs.Common.{length, get_or, sym, ap, ◌∙◌, arith}
 use Rattle.std.proofs.lemmas.List.{at_drop_all}
 use Rattle.byte_rows.specs.Rows.{over}
 use Rattle.byte_rows.proofs.Writing.{over_none}
@@ -10,8 +10,8 @@ pub loop-b-preserved : goal.loop-b-preserved
 loop-b-preserved c =
     let s = c.spaced.ensures in (
       left_more (one_apart (get_or c.args.row.now c.loop-b.b-index 0)) _ _ c.loop-b.invariant.0 (apart_more c.args.row.now c.loop-b.b-index (omega arith))
-          (c.put_bytes-at.ensures.after ∙ ap (over c.loop-b.out c.loop-b.at) s) (c.put_bytes-at.ensures.place ∙ ap (λ l. c.loop-b.at + length l) s),
-      omega (arith, c.put_bytes-at.ensures.place, ap length s, c.loop-b.invariant.1),
+          (cc) (omega (arith, ap length s)),
+      omega (arith, ap length s),
     )
 
 pub returns : goal.returns

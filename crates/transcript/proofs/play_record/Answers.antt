@@ -1,4 +1,4 @@
-use Rattle.std.proofs.Common.{◌≡◌, ◌-◌, ◌≤◌, ◌++◌, length, take, vec_items, ap, ◌∙◌, arith}
+use Rattle.std.proofs.Common.{◌≡◌, ◌-◌, ◌≤◌, length, take, ap, ◌∙◌, arith}
 use Rattle.byte_rows.proofs.Writing.{over_front}
 use Rattle.memory.specs.Pile.{meaning_of}
 use Rattle.play.specs.Lines.{lines_of}
@@ -18,5 +18,5 @@ returns c =
     record {
       same = p.tape;
       after = p.after ∙ ap (λ n. (play_of n tape w).after) c.requires;
-      lines = c.in_ok-extend_from_slice.ensures.items ∙ ap (λ l. vec_items c.args.text.now ++ l) e;
+      lines = grind (arith, e);
     }
