@@ -18,7 +18,7 @@ impl Row {
     pub fn as_slice(&self) -> &[u8]
         ensures { result.now ≡ bytes_of self.now }
     {
-        &self.bytes[0..self.len]
+        &self.bytes[..self.len]
     }
 
     // How many bytes there are.
