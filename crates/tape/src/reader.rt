@@ -1,8 +1,8 @@
 // A reader over the tape, with its place.
 ghost use Rattle.std.specs.Prelude.{◌≡◌, ◌+◌, ◌≤◌, min, length, drop, IfOk, nat_le};
-ghost use Rattle.tape.specs.Records.{entry, entry_of, size_of, record_of};
+ghost use Rattle.tape.specs.Records.{entry, entry_of, size_of, load_of, go_of, record_of};
 
-use crate::record::{Record, TapeFault, Turn, record_at};
+use crate::record::{Mark, Record, TapeFault, Turn};
 
 #[derive(Drop)]
 pub struct Reader<'a> {
@@ -26,13 +26,65 @@ impl<'a> Reader<'a> {
         self.place >= self.tape.len()
     }
 
-    // The next record, which the reader does not pass yet.
+    // What is left of the tape.
+    fn rest(&self) -> &'a [u8]
+        ensures { result.now ≡ drop self.now.place self.now.tape.now }
+    {
+        &self.tape[self.place..]
+    }
+
+    // LD at the place: an address, a count, and that many bytes.
+    fn load(&self) -> Result<Record<'a>, TapeFault>
+        ensures { entry result ≡ load_of (self.now.place + 2) (drop 2 (drop self.now.place self.now.tape.now)) }
+    {
+        match self.rest() {
+            [_, _, low, high, count, rest @ ..] if rest.len() >= usize::from(*count) => {
+                Ok(Record::Load {
+                    address: u16::from_le_bytes([*low, *high]),
+                    offset: self.place + 5,
+                    bytes: &rest[..usize::from(*count)],
+                })
+            }
+            _ => Err(TapeFault::CutOff),
+        }
+    }
+
+    // GO at the place: the program counter and the return pointer.
+    fn go(&self) -> Result<Record<'a>, TapeFault>
+        ensures { entry result ≡ go_of (drop 2 (drop self.now.place self.now.tape.now)) }
+    {
+        match self.rest() {
+            [_, _, pc_low, pc_high, return_low, return_high, ..] => Ok(Record::Go {
+                pc: u16::from_le_bytes([*pc_low, *pc_high]),
+                return_pointer: u16::from_le_bytes([*return_low, *return_high]),
+            }),
+            _ => Err(TapeFault::CutOff),
+        }
+    }
+
+    // The next record, which the reader does not pass yet. An unknown mark is refused first, then one out of turn,
+    // then a record that is cut off.
+    #[tactic(auto, using(crate::proofs::Sizes::record_fits))]
     pub fn peek(&self, turn: Turn) -> Result<Record<'a>, TapeFault>
         ensures entry { entry result ≡ record_of turn self.now.place (drop self.now.place self.now.tape.now) }
         ensures within { IfOk result (λ x. self.now.place + size_of (entry_of x) ≤ length self.now.tape.now) }
     {
-        let tape = self.tape;
-        record_at(turn, self.place, &tape[self.place..])
+        let mark = match self.rest() {
+            [b'L', b'D', ..] => Mark::Load,
+            [b'G', b'O', ..] => Mark::Go,
+            [b'E', b'N', ..] => Mark::End,
+            [_, _, ..] => return Err(TapeFault::UnknownMark),
+            _ if turn == Turn::Over => return Err(TapeFault::OutOfTurn),
+            _ => return Err(TapeFault::CutOff),
+        };
+        if !turn.admits(mark) {
+            return Err(TapeFault::OutOfTurn);
+        }
+        match mark {
+            Mark::Load => self.load(),
+            Mark::Go => self.go(),
+            Mark::End => Ok(Record::End),
+        }
     }
 
     // Goes past the record, at most to the tape's end.
