@@ -13,7 +13,7 @@ use registers::Cpu;
 pub struct Cold;
 
 // Why bytes were not loaded.
-#[derive(Clone, Copy)]
+#[derive(Clone, Copy, PartialEq, Eq, Debug)]
 pub enum LoadFault {
     Empty,
     PastMemory,
@@ -25,8 +25,7 @@ impl LoadFault {
         ensures { result ≡ load_number self }
     {
         match self {
-            LoadFault::Empty => 13,
-            LoadFault::PastMemory => 13,
+            LoadFault::Empty | LoadFault::PastMemory => 13,
         }
     }
 }

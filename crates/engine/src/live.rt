@@ -9,7 +9,8 @@ pub struct Live {
     pub cpu: Cpu,
 }
 
-// What an exchange ends with.
+// What an exchange ends with. It is no `Cpu`: the rules say what ends with any state, and a `Cpu` is bound to have its pointers
+// and E in range.
 #[derive(Clone, Copy)]
 pub struct ReadOut {
     pub registers: [u8; 64],
