@@ -1,3 +1,2 @@
-pub mod Loop
 pub mod Numbers
 pub mod Binaries

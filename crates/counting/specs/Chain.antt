@@ -1,5 +1,5 @@
 -- What a chain over a row of bytes comes to, byte by byte and in whole numbers.
-use Rattle.std.specs.Prelude.{◌≡◌, ℕ, ◌+◌, ◌-◌, ◌/◌, ◌%◌, ◌^◌, Bool, cond, List, [], ◌∷◌, length, Ok, Err, Result, nat_lt}
+use Rattle.std.specs.Prelude.{◌≡◌, ℕ, ◌+◌, ◌-◌, ◌/◌, ◌%◌, ◌^◌, Bool, not, List, [], ◌∷◌, length, Option, position, drop, slice_index, nat_lt}
 use Rattle.counting.specs.declared.Link.{Link}
 use Rattle.counting.specs.declared.Link.TheVariants.{Add, Subtract, Negate, Complement}
 use Rattle.counting.specs.System.{System, bit, number, Lawful}
@@ -13,12 +13,10 @@ linked s Complement a b c = (s.rest a, c)
 
 -- An operand that has no more bytes goes on with zero bytes.
 abbrev pub first : List ℕ → ℕ
-first [] = 0
-first (b ∷ bs) = b
+first bytes = slice_index bytes 0
 
 abbrev pub others : List ℕ → List ℕ
-others [] = []
-others (b ∷ bs) = bs
+others bytes = drop 1 bytes
 
 -- The bytes that a chain leaves, from the low byte up.
 abbrev pub row_of : System → Link → List ℕ → List ℕ → Bool → List ℕ
@@ -42,7 +40,6 @@ Numbers Complement p a b c out d = (out ≡ p - 1 - a) × (d ≡ c)
 abbrev pub Whole : System → Link → List ℕ → List ℕ → Bool → List ℕ → Bool → Type 0
 Whole s l xs ys c out d = Lawful s out × Numbers l (s.base ^ length xs) (number s xs) (number s ys) c (number s out) d
 
--- The place, counted from i, of the first byte that is not accepted.
-abbrev pub first_refused : System → ℕ → List ℕ → Result (Unit {0}) ℕ
-first_refused s i [] = Ok tt
-first_refused s i (b ∷ bs) = cond (s.accepts b) (first_refused s (i + 1) bs) (Err i)
+-- The place of the first byte that is not accepted.
+abbrev pub first_refused : System → List ℕ → Option ℕ
+first_refused s bytes = position (λ b. not (s.accepts b)) bytes

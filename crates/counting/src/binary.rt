@@ -4,6 +4,7 @@ ghost use Rattle.std.proofs.Common.{rules};
 
 use crate::Counting;
 
+#[derive(Clone, Copy, PartialEq, Eq, Debug)]
 pub struct Binary;
 
 impl Counting for Binary {

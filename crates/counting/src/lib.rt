@@ -3,13 +3,13 @@
 
 ghost use Rattle.std.specs.Prelude.{◌≡◌, ◌≤◌, length, slice_index};
 ghost use Rattle.counting.specs.System.{System, Laws, Lawful};
-ghost use Rattle.counting.specs.Chain.{linked, row_of, carry_of, Whole, first_refused};
+ghost use Rattle.counting.specs.Chain.{linked, row_of, carry_of, Whole, first_refused as refused_in};
 
 pub mod binary;
 pub mod decimal;
 
 // What a chain does with each byte and the carry.
-#[derive(Clone, Copy)]
+#[derive(Clone, Copy, PartialEq, Eq, Debug)]
 pub enum Link {
     // Data plus operand.
     Add,
@@ -43,6 +43,7 @@ pub trait Counting {
     ghost sound: { Laws system };
 }
 
+// A match on data and not a closure, since the law `Whole` speaks of a link by its case.
 fn link_bytes<C: Counting>(op: Link, a: u8, b: u8, carry: bool) -> (u8, bool)
     ensures { result ≡ linked C.Counting.system op a b carry }
 {
@@ -58,33 +59,26 @@ fn link_bytes<C: Counting>(op: Link, a: u8, b: u8, carry: bool) -> (u8, bool)
 pub fn byte_at(row: &[u8], i: usize) -> u8
     ensures { result ≡ slice_index row.now i }
 {
-    if i < row.len() { row[i] } else { 0 }
+    row.get(i).copied().unwrap_or(0)
 }
 
 // Works through the data from its low byte up, handing the carry on, and gives the carry out of the last byte. An
 // operand that is shorter than the data goes on with zero bytes; what is longer is not looked at.
-pub fn chain<C: Counting>(op: Link, bytes: &mut [u8], operand: &[u8], carry: bool) -> bool
+pub fn chain<C: Counting>(op: Link, bytes: &mut [u8], operand: &[u8], mut carry: bool) -> bool
     ensures row { bytes.new ≡ row_of C.Counting.system op bytes.old operand.now carry }
     ensures carry { result ≡ carry_of C.Counting.system op bytes.old operand.now carry }
     ensures whole { Lawful C.Counting.system bytes.old → Lawful C.Counting.system operand.now → length operand.now ≤ length bytes.old → Whole C.Counting.system op bytes.old operand.now carry bytes.new result }
 {
-    let mut carry = carry;
+    // The operand by its places: of a loop over a zip, a proof does not learn which bytes were written.
     for (i, d) in bytes.iter_mut().enumerate() {
-        let (byte, out) = link_bytes::<C>(op, *d, byte_at(operand, i), carry);
-        *d = byte;
-        carry = out;
+        (*d, carry) = link_bytes::<C>(op, *d, byte_at(operand, i), carry);
     }
     carry
 }
 
-// The place of the first byte that the counting does not accept, as an error.
-pub fn check<C: Counting>(row: &[u8]) -> Result<(), usize>
-    ensures { result ≡ first_refused C.Counting.system 0 row.now }
+// The place of the first byte that the counting does not accept.
+pub fn first_refused<C: Counting>(row: &[u8]) -> Option<usize>
+    ensures { result ≡ refused_in C.Counting.system row.now }
 {
-    for (i, b) in row.iter().enumerate() {
-        if !C::accepts(*b) {
-            return Err(i);
-        }
-    }
-    Ok(())
+    row.iter().position(|b| !C::accepts(*b))
 }
