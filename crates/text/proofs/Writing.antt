@@ -1,51 +1,67 @@
 -- One write after another.
-use Rattle.std.proofs.Common.{◌≡◌, ℕ, ◌+◌, ◌/◌, ◌%◌, ◌^◌, ◌<◌, ◌≤◌, List, [], ◌∷◌, ◌++◌, length, get_or, drop, decimal, sym, ap, ◌∙◌, arith, length-append}
-use Rattle.std.proofs.lemmas.List.{length_push, at_drop_more, at_drop_all}
+use Rattle.std.proofs.Common.{◌≡◌, ℕ, ◌+◌, ◌*◌, ◌/◌, ◌%◌, ◌^◌, ◌<◌, ◌≤◌, List, [], ◌∷◌, ◌++◌, length, take, get_or, decimal, sym, refl, ap, subst, ◌∙◌, add-zero, arith, length-append}
+use Rattle.std.specs.List.{flat_map}
+use Rattle.std.proofs.lemmas.List.{length_push}
+use Rattle.std.proofs.lemmas.Grind.{common_steps}
 use Rattle.std.proofs.lemmas.Fmt.{decimal_step, length-decimal-le}
 use Rattle.byte_rows.specs.Rows.{over}
-use Rattle.byte_rows.proofs.Writing.{over_over}
+use Rattle.byte_rows.proofs.Writing.{over_over, over_none}
+use Rattle.text.specs.declared.Line.{Line}
+use Rattle.text.specs.Line.{Wrote}
 use Rattle.text.specs.declared.Piece.{Piece}
-use Rattle.text.specs.declared.Piece.TheVariants.{Byte}
-use Rattle.text.specs.Pieces.{spelled, joined, apart, one_apart, widest, room}
+use Rattle.text.specs.declared.Piece.TheVariants.{Byte, Hex4}
+use Rattle.text.specs.Pieces.{hex_digit, hex2, spelled, joined, apart, one_apart}
 
--- what is left to write comes to what there was to write: t from place j of e on, and s from place i of d on
-pub record Left (d : List ℕ) (i : ℕ) (s : List ℕ) (e : List ℕ) (j : ℕ) (t : List ℕ) : Type 0 where
-  pub after : over e j t ≡ over d i s
-  pub place : j + length t ≡ i + length s
+pub wrote_none : (l : Line) → Wrote l l []
+wrote_none l = record { same = refl; row = sym (over_none l.out.now l.at); size = refl; place = sym (add-zero l.at) }
 
-pub left_more : {d s e e' : List ℕ} {i j j' : ℕ} (p t u : List ℕ) → Left d i s e j t → t ≡ p ++ u → e' ≡ over e j p → j' ≡ j + length p → Left d i s e' j' u
-left_more {e} {j} p t u f q a b = record {
-  after = (λ x. over (a x) (b x) u) ∙ over_over e j p u ∙ ap (over e j) (sym q) ∙ f.after;
-  place = omega (arith, b, f.place, ap length q, length-append p u);
+pub wrote_more : (l m n : Line) (s t : List ℕ) → Wrote l m s → Wrote m n t → Wrote l n (s ++ t)
+wrote_more l m n s t f g = record {
+  same = g.same ∙ f.same;
+  row = g.row ∙ (λ x. over (f.row x) (f.place x) t) ∙ over_over l.out.now l.at s t;
+  size = g.size ∙ f.size;
+  place = omega (arith, f.place, g.place, length-append s t);
 }
 
-pub decimal_short : (n : ℕ) → n < 2 ^ 64 → length (decimal n) ≤ 20
-decimal_short n h = length-decimal-le 20 n (omega arith) (omega arith) h
+-- one item more of a list is written
+pushed : {X : Type 0} (f : X → List ℕ) (l m n : Line) (xs : List X) (i : ℕ) (d : X) → i < length xs → Wrote l m (flat_map f (take i xs)) → Wrote m n (f (get_or xs i d)) → Wrote l n (flat_map f (take (i + 1) xs))
+pushed f l m n xs i d h p q = let w = wrote_more l m n _ _ p q in grind (arith, common_steps)
+
+pub joined_none : (l : Line) → Wrote l l (joined [])
+unfolding joined
+joined_none l = wrote_none l
+
+pub joined_push : (l m n : Line) (ps : List Piece) (i : ℕ) → i < length ps → Wrote l m (joined (take i ps)) → Wrote m n (spelled (get_or ps i (Byte 0))) → Wrote l n (joined (take (i + 1) ps))
+unfolding joined
+joined_push l m n ps i h p q = pushed spelled l m n ps i (Byte 0) h p q
+
+pub apart_push : (l m n : Line) (bs : List ℕ) (i : ℕ) → i < length bs → Wrote l m (apart (take i bs)) → Wrote m n (one_apart (get_or bs i 0)) → Wrote l n (apart (take (i + 1) bs))
+apart_push l m n bs i h p q = pushed one_apart l m n bs i 0 h p q
+
+pub length_apart : (bs : List ℕ) → length (apart bs) ≡ 3 * length bs
+length_apart [] = refl
+length_apart (b ∷ bs) = omega (arith, length_apart bs)
+
+pub apart_front : (bs : List ℕ) (i : ℕ) → i ≤ length bs → length (apart (take i bs)) ≡ 3 * i
+apart_front bs i h = grind (arith, common_steps, length_apart)
+
+pub hex4 : (l m k : Line) (n : ℕ) → n < 2 ^ 16 → Wrote l m (hex2 (n / 256 % 256)) → Wrote m k (hex2 (n % 256)) → Wrote l k (spelled (Hex4 n))
+hex4 l m k n h f g =
+    let a : n / 256 % 256 / 16 ≡ n / 4096 = omega arith in
+    let b : n / 256 % 256 % 16 ≡ n / 256 % 16 = omega arith in
+    let c : n % 256 / 16 ≡ n / 16 % 16 = omega arith in
+    let d : n % 256 % 16 ≡ n % 16 = omega arith in
+    subst (Wrote l k) (λ x. hex_digit (a x) ∷ hex_digit (b x) ∷ hex_digit (c x) ∷ hex_digit (d x) ∷ []) (wrote_more l m k _ _ f g)
+
+pub decimal_more : (l m n : Line) (k : ℕ) → 10 ≤ k → k < 2 ^ 64 → Wrote l m (decimal (k / 10)) → Wrote m n ((48 + k % 10) ∷ []) → Wrote l n (decimal k)
+decimal_more l m n k h b f g = rw (decimal_step k h b) (wrote_more l m n _ _ f g)
+
+-- a number without its last digit
+pub decimal_front : (n : ℕ) → n < 2 ^ 64 → length (decimal (n / 10)) ≤ 19
+decimal_front n h = length-decimal-le 19 (n / 10) (omega arith) (omega arith) (omega arith)
 
 pub decimal_length : (n : ℕ) → 10 ≤ n → n < 2 ^ 64 → length (decimal n) ≡ length (decimal (n / 10)) + 1
 decimal_length n h k = ap length (decimal_step n h k) ∙ length_push (decimal (n / 10)) (48 + n % 10)
 
--- the front of a number, then its last digit
-pub decimal_last : (d : List ℕ) (i n : ℕ) → 10 ≤ n → n < 2 ^ 64 → over (over d i (decimal (n / 10))) (i + length (decimal (n / 10))) ((48 + n % 10) ∷ []) ≡ over d i (decimal n)
-decimal_last d i n h k = over_over d i (decimal (n / 10)) ((48 + n % 10) ∷ []) ∙ ap (over d i) (sym (decimal_step n h k))
-
-pub joined_more : (ps : List Piece) (k : ℕ) → k < length ps → joined (drop k ps) ≡ spelled (get_or ps k (Byte 0)) ++ joined (drop (k + 1) ps)
-unfolding joined
-joined_more ps k h = at_drop_more joined ps k (Byte 0) h
-
-pub joined_all : (ps : List Piece) (k : ℕ) → length ps ≤ k → joined (drop k ps) ≡ []
-unfolding joined
-joined_all ps k h = at_drop_all joined ps k h
-
-pub room_more : (ps : List Piece) (k : ℕ) → k < length ps → room (drop k ps) ≡ widest (get_or ps k (Byte 0)) + room (drop (k + 1) ps)
-room_more ps k h = at_drop_more room ps k (Byte 0) h
-
-pub room_all : (ps : List Piece) (k : ℕ) → length ps ≤ k → room (drop k ps) ≡ 0
-room_all ps k h = at_drop_all room ps k h
-
-pub apart_more : (bs : List ℕ) (k : ℕ) → k < length bs → apart (drop k bs) ≡ one_apart (get_or bs k 0) ++ apart (drop (k + 1) bs)
-apart_more bs k h = at_drop_more apart bs k 0 h
-
--- one piece more is written
-pub left_joined : (d e e' : List ℕ) (i j j' k : ℕ) (ps : List Piece) → k < length ps → Left d i (joined ps) e j (joined (drop k ps)) → e' ≡ over e j (spelled (get_or ps k (Byte 0))) → j' ≡ j + length (spelled (get_or ps k (Byte 0))) → Left d i (joined ps) e' j' (joined (drop (k + 1) ps))
-left_joined d e e' i j j' k ps h f a b = left_more (spelled (get_or ps k (Byte 0))) _ _ f (joined_more ps k h) a b
+pub decimal_short : (n : ℕ) → n < 2 ^ 64 → length (decimal n) ≤ 20
+decimal_short n h = length-decimal-le 20 n (omega arith) (omega arith) h

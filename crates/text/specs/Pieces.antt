@@ -1,5 +1,6 @@
 -- What a line says, as bytes.
-use Rattle.std.specs.Prelude.{ℕ, ◌+◌, ◌/◌, ◌%◌, cond, List, [], ◌∷◌, ◌++◌, decimal, nat_lt}
+use Rattle.std.specs.Prelude.{ℕ, ◌+◌, ◌/◌, ◌%◌, cond, List, [], ◌∷◌, decimal, nat_lt, sum_by}
+use Rattle.std.specs.List.{flat_map}
 use Rattle.text.specs.declared.Piece.{Piece}
 use Rattle.text.specs.declared.Piece.TheVariants.{Byte, Word, Decimal, Octal2, Hex1, Hex2, Hex4, Row}
 
@@ -15,8 +16,7 @@ abbrev pub one_apart : ℕ → List ℕ
 one_apart b = 32 ∷ hex2 b
 
 abbrev pub apart : List ℕ → List ℕ
-apart [] = []
-apart (b ∷ bs) = 32 ∷ hex_digit (b / 16) ∷ hex_digit (b % 16) ∷ apart bs
+apart bs = flat_map one_apart bs
 
 -- How a piece is written.
 abbrev pub spelled : Piece → List ℕ
@@ -31,8 +31,7 @@ spelled (Row bs) = apart bs
 
 -- Pieces are written one after another.
 unfoldable pub joined : List Piece → List ℕ
-joined [] = []
-joined (p ∷ ps) = spelled p ++ joined ps
+joined ps = flat_map spelled ps
 
 -- How many bytes a piece has at its widest.
 abbrev pub widest : Piece → ℕ
@@ -46,5 +45,4 @@ widest (Hex4 n) = 4
 widest (Row bs) = 24
 
 abbrev pub room : List Piece → ℕ
-room [] = 0
-room (p ∷ ps) = widest p + room ps
+room ps = sum_by widest ps
