@@ -1,5 +1,6 @@
 -- What RAM, ROM and the line board mean. Each refuses at depth 0, with "no byte" wherever it has none.
-use Rattle.std.specs.Prelude.{ℕ, ◌+◌, ◌-◌, ◌*◌, Bool, cond, ◌&&◌, List, map, length, Some, None, Ok, Err, Option, nat_le, nat_lt, slice_index}
+use Rattle.std.specs.Prelude.{ℕ, ◌+◌, ◌-◌, ◌*◌, Bool, cond, ◌&&◌, List, map, length, Ok, Err, Result, nat_le, nat_lt, slice_index}
+use Rattle.bus.specs.declared.refusal.BusRefusal.{BusRefusal}
 use Rattle.bus.specs.declared.refusal.Cause.TheVariants.{NoByte, RomStore}
 use Rattle.bus.specs.declared.trunk.Trunk.{Trunk}
 use Rattle.bus.specs.Meaning.{Meaning, here}
@@ -9,8 +10,8 @@ abbrev pub within : ℕ → ℕ → ℕ → Bool
 within base n a = nat_le base a && (nat_lt (a - base) n && nat_lt a 65536)
 
 -- Where the byte of an address lies.
-abbrev pub place_of : ℕ → ℕ → ℕ → Option ℕ
-place_of base n a = cond (within base n a) (Some (a - base)) None
+abbrev pub place_of : ℕ → ℕ → ℕ → Result ℕ BusRefusal
+place_of base n a = cond (within base n a) (Ok (a - base)) (Err (here NoByte))
 
 -- n bytes that are read and stored: byte i is at base + i.
 abbrev pub bytes_meaning : ℕ → ℕ → List ℕ → Meaning

@@ -5,7 +5,7 @@ ghost use Rattle.bus.specs.Kinds.{board_meaning, trunk_byte};
 
 use crate::contract::Bus;
 use crate::place::place;
-use crate::refusal::{BusRefusal, Cause};
+use crate::refusal::BusRefusal;
 use crate::trunk::Trunk;
 
 // Trunk i is at the address base + i.
@@ -27,24 +27,19 @@ impl LineBoard {
         ensures test { is_some result ≡ nat_lt n 16 }
         ensures value { IfSome result (λ t. t ≡ slice_index_or self.now.trunks n t) }
     {
-        if n < 16 {
-            Some(self.trunks[usize::from(n)])
-        } else {
-            None
-        }
+        self.trunks.get(usize::from(n)).copied()
     }
 
-    // Rewrites trunk n, of 0 to 15, or changes nothing; says which.
-    pub fn rewrite(&mut self, n: u8, trunk: Trunk) -> bool
-        ensures answer { result ≡ nat_lt n 16 }
-        ensures trunks { self.new.trunks ≡ (if result then slice_set self.old.trunks n trunk else self.old.trunks) }
+    // Rewrites trunk n, of 0 to 15, and answers the trunk that stood there; or changes nothing.
+    pub fn rewrite(&mut self, n: u8, trunk: Trunk) -> Option<Trunk>
+        ensures test { is_some result ≡ nat_lt n 16 }
+        ensures was { IfSome result (λ t. t ≡ slice_index_or self.old.trunks n t) }
+        ensures trunks { self.new.trunks ≡ (if is_some result then slice_set self.old.trunks n trunk else self.old.trunks) }
         ensures base { self.new.base ≡ self.old.base }
     {
-        if n >= 16 {
-            return false;
-        }
+        let old = self.trunk(n)?;
         self.trunks[usize::from(n)] = trunk;
-        true
+        Some(old)
     }
 }
 
@@ -58,26 +53,18 @@ impl Bus for LineBoard {
     ghost rules = { λ s. bytes_rules s.base 16 (map trunk_byte s.trunks) };
 
     fn read(&self, address: u16) -> Result<u8, BusRefusal> {
-        match place(self.base, 16, address) {
-            Some(i) => Ok(self.trunks[i].byte()),
-            None => Err(BusRefusal::here(Cause::NoByte)),
-        }
+        let i = place(self.base, self.trunks.len(), address)?;
+        Ok(u8::from(self.trunks[i]))
     }
 
     fn inquire(&self, address: u16) -> Result<(), BusRefusal> {
-        match place(self.base, 16, address) {
-            Some(_) => Ok(()),
-            None => Err(BusRefusal::here(Cause::NoByte)),
-        }
+        place(self.base, self.trunks.len(), address)?;
+        Ok(())
     }
 
     fn store(&mut self, address: u16, byte: u8) -> Result<(), BusRefusal> {
-        match place(self.base, 16, address) {
-            Some(i) => {
-                self.trunks[i] = Trunk::of_byte(byte);
-                Ok(())
-            }
-            None => Err(BusRefusal::here(Cause::NoByte)),
-        }
+        let i = place(self.base, self.trunks.len(), address)?;
+        self.trunks[i] = Trunk::from(byte);
+        Ok(())
     }
 }

@@ -1,9 +1,10 @@
 // What every bus does.
-ghost use Rattle.std.specs.Prelude.{◌≡◌, ℕ, ◌+◌, length, if◌then◌else◌, nat_le};
+ghost use Rattle.std.specs.Prelude.{◌≡◌, ℕ, ◌+◌, is_ok, length, if◌then◌else◌, nat_le};
 ghost use Rattle.bus.specs.Meaning.{Meaning, after, loaded};
 ghost use Rattle.bus.specs.Rules.{Rules};
 
 use crate::refusal::BusRefusal;
+use byte_rows::PastEnd;
 
 pub trait Bus {
     // At each address, what a read gives and what a store gets.
@@ -35,8 +36,8 @@ pub trait Loadable: Bus {
     // Loads reach the addresses below this one.
     ghost room: { ℕ };
 
-    // Puts all the bytes into the memory from the address on, or none where they would pass its end; says which.
-    fn load(&mut self, address: u16, bytes: &[u8]) -> bool
-        ensures fits { result ≡ nat_le (address + length bytes.now) room }
-        ensures after { Self.Bus.meaning self.new ≡ (if result then loaded (Self.Bus.meaning self.old) address bytes.now else Self.Bus.meaning self.old) };
+    // Puts all the bytes into the memory from the address on, or none where they would pass its end.
+    fn load(&mut self, address: u16, bytes: &[u8]) -> Result<(), PastEnd>
+        ensures fits { is_ok result ≡ nat_le (address + length bytes.now) room }
+        ensures after { Self.Bus.meaning self.new ≡ (if is_ok result then loaded (Self.Bus.meaning self.old) address bytes.now else Self.Bus.meaning self.old) };
 }

@@ -1,14 +1,15 @@
 // Where the byte of an address lies in a row that begins at a base address.
-ghost use Rattle.std.specs.Prelude.{◌≡◌, ◌-◌, ◌<◌, ◌≤◌, IfSome};
+ghost use Rattle.std.specs.Prelude.{◌≡◌};
 ghost use Rattle.bus.specs.Kinds.{place_of};
 
-pub fn place(base: u16, size: usize, address: u16) -> Option<usize>
-    ensures value { result ≡ place_of base size address }
-    ensures inside { IfSome result (λ i. (i < size) × ((base ≤ address) × (i ≡ address - base))) }
+use crate::refusal::{BusRefusal, Cause};
+
+pub fn place(base: u16, size: usize, address: u16) -> Result<usize, BusRefusal>
+    ensures { result ≡ place_of base size address }
 {
-    if address < base {
-        return None;
-    }
-    let i = usize::from(address - base);
-    if i < size { Some(i) } else { None }
+    address
+        .checked_sub(base)
+        .map(usize::from)
+        .filter(|&i| i < size)
+        .ok_or(BusRefusal::here(Cause::NoByte))
 }

@@ -1,5 +1,5 @@
 // Bytes that are read and stored.
-ghost use Rattle.std.specs.Prelude.{◌≡◌, ℕ, ◌-◌, length, if◌then◌else◌};
+ghost use Rattle.std.specs.Prelude.{◌≡◌, ℕ, ◌-◌, is_ok, length, if◌then◌else◌};
 ghost use Rattle.byte_rows.specs.Rows.{over};
 ghost use Rattle.bus.specs.Kept.{ram_rules};
 ghost use Rattle.bus.specs.Kinds.{ram_meaning, holds};
@@ -7,8 +7,8 @@ ghost use Rattle.bus.specs.Meaning.{loaded};
 
 use crate::contract::Bus;
 use crate::place::place;
-use crate::refusal::{BusRefusal, Cause};
-use byte_rows::overwrite;
+use crate::refusal::BusRefusal;
+use byte_rows::{PastEnd, overwrite};
 
 // Byte i is at the address base + i.
 #[derive(Drop)]
@@ -18,18 +18,19 @@ pub struct Ram {
 }
 
 impl Ram {
-    // Puts all the bytes in from the address on, or none where it has not all of these addresses; says which.
-    pub fn load(&mut self, address: u16, bytes: &[u8]) -> bool
-        ensures fits { result ≡ holds self.old.base (length self.old.bytes.items) address (length bytes.now) }
-        ensures bytes { self.new.bytes.items ≡ (if result then over self.old.bytes.items (address - self.old.base) bytes.now else self.old.bytes.items) }
+    // Puts all the bytes in from the address on, or none where it has not all of these addresses.
+    pub fn load(&mut self, address: u16, bytes: &[u8]) -> Result<(), PastEnd>
+        ensures fits { is_ok result ≡ holds self.old.base (length self.old.bytes.items) address (length bytes.now) }
+        ensures bytes { self.new.bytes.items ≡ (if is_ok result then over self.old.bytes.items (address - self.old.base) bytes.now else self.old.bytes.items) }
         ensures base { self.new.base ≡ self.old.base }
         ensures size { length self.new.bytes.items ≡ length self.old.bytes.items }
-        ensures meaning { ram_meaning self.new.base self.new.bytes.items ≡ (if result then loaded (ram_meaning self.old.base self.old.bytes.items) address bytes.now else ram_meaning self.old.base self.old.bytes.items) }
+        ensures meaning { ram_meaning self.new.base self.new.bytes.items ≡ (if is_ok result then loaded (ram_meaning self.old.base self.old.bytes.items) address bytes.now else ram_meaning self.old.base self.old.bytes.items) }
     {
-        if address < self.base || bytes.len() > 65536 - usize::from(address) {
-            return false;
+        let at = address.checked_sub(self.base).ok_or(PastEnd)?;
+        if bytes.len() > 65536 - usize::from(address) {
+            return Err(PastEnd);
         }
-        overwrite(&mut self.bytes, usize::from(address - self.base), bytes)
+        overwrite(&mut self.bytes, usize::from(at), bytes)
     }
 }
 
@@ -43,26 +44,18 @@ impl Bus for Ram {
     ghost rules = { λ s. ram_rules s.base s.bytes.items };
 
     fn read(&self, address: u16) -> Result<u8, BusRefusal> {
-        match place(self.base, self.bytes.len(), address) {
-            Some(i) => Ok(self.bytes[i]),
-            None => Err(BusRefusal::here(Cause::NoByte)),
-        }
+        let i = place(self.base, self.bytes.len(), address)?;
+        Ok(self.bytes[i])
     }
 
     fn inquire(&self, address: u16) -> Result<(), BusRefusal> {
-        match place(self.base, self.bytes.len(), address) {
-            Some(_) => Ok(()),
-            None => Err(BusRefusal::here(Cause::NoByte)),
-        }
+        place(self.base, self.bytes.len(), address)?;
+        Ok(())
     }
 
     fn store(&mut self, address: u16, byte: u8) -> Result<(), BusRefusal> {
-        match place(self.base, self.bytes.len(), address) {
-            Some(i) => {
-                self.bytes[i] = byte;
-                Ok(())
-            }
-            None => Err(BusRefusal::here(Cause::NoByte)),
-        }
+        let i = place(self.base, self.bytes.len(), address)?;
+        self.bytes[i] = byte;
+        Ok(())
     }
 }

@@ -4,10 +4,10 @@ ghost use Rattle.bus.specs.Meaning.{cause_number, here, raised};
 
 #[derive(Clone, Copy, PartialEq, Eq, Debug)]
 pub enum Cause {
-    NoByte,
-    RomStore,
-    Guarded,
-    OutsideShadow,
+    NoByte = 4,
+    RomStore = 5,
+    Guarded = 6,
+    OutsideShadow = 7,
 }
 
 impl Cause {
@@ -15,12 +15,7 @@ impl Cause {
     pub fn number(self) -> u8
         ensures { result ≡ cause_number self }
     {
-        match self {
-            Cause::NoByte => 4,
-            Cause::RomStore => 5,
-            Cause::Guarded => 6,
-            Cause::OutsideShadow => 7,
-        }
+        self as u8
     }
 }
 
@@ -44,11 +39,8 @@ impl BusRefusal {
 pub fn raise<T>(answer: Result<T, BusRefusal>) -> Result<T, BusRefusal>
     ensures { result ≡ raised answer }
 {
-    match answer {
-        Ok(value) => Ok(value),
-        Err(refusal) => Err(BusRefusal {
-            cause: refusal.cause,
-            depth: refusal.depth.saturating_add(1),
-        }),
-    }
+    answer.map_err(|refusal| BusRefusal {
+        depth: refusal.depth.saturating_add(1),
+        ..refusal
+    })
 }

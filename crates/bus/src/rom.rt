@@ -24,17 +24,13 @@ impl<'a> Bus for Rom<'a> {
     ghost rules = { λ s. rom_rules s.base s.bytes.now };
 
     fn read(&self, address: u16) -> Result<u8, BusRefusal> {
-        match place(self.base, self.bytes.len(), address) {
-            Some(i) => Ok(self.bytes[i]),
-            None => Err(BusRefusal::here(Cause::NoByte)),
-        }
+        let i = place(self.base, self.bytes.len(), address)?;
+        Ok(self.bytes[i])
     }
 
     fn inquire(&self, address: u16) -> Result<(), BusRefusal> {
-        match place(self.base, self.bytes.len(), address) {
-            Some(_) => Err(BusRefusal::here(Cause::RomStore)),
-            None => Err(BusRefusal::here(Cause::NoByte)),
-        }
+        place(self.base, self.bytes.len(), address)?;
+        Err(BusRefusal::here(Cause::RomStore))
     }
 
     fn store(&mut self, address: u16, _byte: u8) -> Result<(), BusRefusal> {

@@ -32,18 +32,22 @@ impl Trunk {
     {
         self.party
     }
+}
 
-    // The byte that the trunk reads as.
-    pub fn byte(self) -> u8
-        ensures { result ≡ 16 * self.class + self.party }
-    {
-        16 * self.class + self.party
+// The byte that the trunk reads as.
+impl From<Trunk> for u8 {
+    ghost from_gives = { λ trunk byte. byte ≡ 16 * trunk.class + trunk.party };
+
+    fn from(trunk: Trunk) -> u8 {
+        16 * trunk.class + trunk.party
     }
+}
 
-    // The trunk that a store of the byte leaves.
-    pub fn of_byte(byte: u8) -> Trunk
-        ensures { (result.class ≡ byte / 16) × (result.party ≡ byte % 16) }
-    {
+// The trunk that a store of the byte leaves.
+impl From<u8> for Trunk {
+    ghost from_gives = { λ byte trunk. (trunk.class ≡ byte / 16) × (trunk.party ≡ byte % 16) };
+
+    fn from(byte: u8) -> Trunk {
         Trunk {
             class: byte / 16,
             party: byte % 16,
