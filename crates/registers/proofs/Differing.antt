@@ -1,26 +1,19 @@
--- One more register compared.
-use Rattle.std.proofs.Common.{◌≡◌, ℕ, ◌+◌, ◌<◌, ◌≤◌, List, length, get_or, drop, Some, None}
-use Rattle.std.proofs.lemmas.List.{drop_more, drop_all}
-use Rattle.std.proofs.lemmas.Bool.{eq-eqb, ne_eqb}
+-- The first register that differs, by its place among the pairs of registers.
+use Rattle.std.proofs.Common.{◌≡◌, ℕ, ◌+◌, Bool, not, ◌==◌, List, [], ◌∷◌, length, zip, position, Option, ap, ◌∙◌, sym, arith}
+use Rattle.std.specs.Option.{option_map}
+use Rattle.std.specs.List.{position_from}
+use Rattle.std.proofs.lemmas.Iterator.Adapters.{position_from-zero}
 use Rattle.registers.specs.declared.mar.Mar.TheVariants.{Register}
 use Rattle.registers.specs.Differences.{register_mar}
 
-pub differs_on : (xs ys : List ℕ) (i : ℕ) → i < length xs → i < length ys → get_or xs i 0 ≡ get_or ys i 0 → register_mar i (drop i xs) (drop i ys) ≡ register_mar (i + 1) (drop (i + 1) xs) (drop (i + 1) ys)
-differs_on xs ys i h k e =
-    let t = eq-eqb (get_or xs i 0) (get_or ys i 0) e in
-    let p = drop_more xs i 0 h in
-    let q = drop_more ys i 0 k in
-    rw (p, q, t)
+abbrev pub differ : ℕ × ℕ → Bool
+differ p = not (p.0 == p.1)
 
-pub differs_here : (xs ys : List ℕ) (i : ℕ) → i < length xs → i < length ys → (get_or xs i 0 ≡ get_or ys i 0 → ⊥) → register_mar i (drop i xs) (drop i ys) ≡ Some (Register i)
-differs_here xs ys i h k e =
-    let t = ne_eqb (get_or xs i 0) (get_or ys i 0) e in
-    let p = drop_more xs i 0 h in
-    let q = drop_more ys i 0 k in
-    rw (p, q, t)
+counted : (k : ℕ) (xs ys : List ℕ) → length xs ≡ length ys → register_mar k xs ys ≡ option_map Register (position_from differ k (zip xs ys))
+counted k [] [] h = grind arith
+counted k [] (y ∷ ys) h = absurd (omega arith)
+counted k (x ∷ xs) [] h = absurd (omega arith)
+counted k (x ∷ xs) (y ∷ ys) h = grind (arith, counted (k + 1) xs ys)
 
-pub differs_nowhere : (xs ys : List ℕ) (i : ℕ) → length xs ≤ i → length ys ≤ i → register_mar i (drop i xs) (drop i ys) ≡ None
-differs_nowhere xs ys i h k =
-    let p = drop_all i xs h in
-    let q = drop_all i ys k in
-    rw (p, q)
+pub first_differs : (xs ys : List ℕ) (r : Option ℕ) → length xs ≡ length ys → r ≡ position differ (zip xs ys) → register_mar 0 xs ys ≡ option_map Register r
+first_differs xs ys r h e = counted 0 xs ys h ∙ ap (option_map Register) (sym (e ∙ position_from-zero differ (zip xs ys)))

@@ -1,3 +1,3 @@
-pub mod Wrapping
-pub mod Same
+pub mod Rows
 pub mod Differing
+pub mod Same

@@ -1,20 +1,14 @@
 -- The first part in which two states differ: registers, then ARP, DRP, status, E.
-use Rattle.std.specs.Prelude.{ℕ, ◌+◌, Bool, true, false, cond, not, ◌&&◌, List, [], ◌∷◌, Some, None, Option, ◌==◌}
+use Rattle.std.specs.Prelude.{ℕ, ◌+◌, Bool, cond, ◌&&◌, List, [], ◌∷◌, Some, None, Option, ◌==◌}
+use Rattle.std.specs.Bool.{beq}
 use Rattle.registers.specs.declared.mar.Mar.{Mar}
 use Rattle.registers.specs.declared.mar.Mar.TheVariants.{Register, Arp, Drp, Status as StatusMar, E}
 use Rattle.registers.specs.declared.status.Status.{Status}
 use Rattle.registers.specs.State.{State}
 
-abbrev pub is_same_bit : Bool → Bool → Bool
-is_same_bit true b = b
-is_same_bit false b = not b
-
-abbrev pub same_four : Bool → Bool → Bool → Bool → Bool → Bool → Bool → Bool → Bool
-same_four a b c d w x y z = is_same_bit a w && (is_same_bit b x && (is_same_bit c y && is_same_bit d z))
-
 -- All eight status bits count.
 abbrev pub same_status : Status → Status → Bool
-same_status s t = same_four s.dcm s.cy s.ovf s.lsb t.dcm t.cy t.ovf t.lsb && same_four s.msb s.z s.ldz s.rdz t.msb t.z t.ldz t.rdz
+same_status s t = beq s.dcm t.dcm && (beq s.cy t.cy && (beq s.ovf t.ovf && (beq s.lsb t.lsb && (beq s.msb t.msb && (beq s.z t.z && (beq s.ldz t.ldz && beq s.rdz t.rdz))))))
 
 -- The first register that differs, counted from k.
 abbrev pub register_mar : ℕ → List ℕ → List ℕ → Option Mar

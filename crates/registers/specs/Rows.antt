@@ -1,12 +1,14 @@
 -- Registers, pairs and rows of them. Register numbers wrap modulo 64.
-use Rattle.std.specs.Prelude.{ℕ, zero, suc, ◌+◌, ◌-◌, ◌/◌, ◌%◌, Bool, true, false, cond, List, [], ◌∷◌, nat_lt, slice_index, slice_set}
+use Rattle.std.specs.Prelude.{ℕ, zero, suc, ◌+◌, ◌-◌, ◌/◌, ◌%◌, cond, List, [], ◌∷◌, nat_lt, slice_index, slice_set}
 use Rattle.byte_rows.specs.Rows.{pair}
+use Rattle.registers.specs.declared.cpu.rows.Form.{Form}
+use Rattle.registers.specs.declared.cpu.rows.Form.TheVariants.{Byte, Multi}
 use Rattle.registers.specs.State.{State}
 
 -- A byte form spans one register. A multi form spans 2 - DRP mod 2 below R40, and 8 - DRP mod 8 from R40 on.
-abbrev pub span_of : Bool → ℕ → ℕ
-span_of false drp = 1
-span_of true drp = cond (nat_lt drp 32) (2 - drp % 2) (8 - drp % 8)
+abbrev pub span_of : Form → ℕ → ℕ
+span_of Byte drp = 1
+span_of Multi drp = cond (nat_lt drp 32) (2 - drp % 2) (8 - drp % 8)
 
 abbrev pub register_at : List ℕ → ℕ → ℕ
 register_at rs k = slice_index rs (k % 64)

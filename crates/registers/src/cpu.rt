@@ -8,7 +8,7 @@ pub mod rows;
 pub mod start;
 
 // Registers 4 and 5 are the program counter, 6 and 7 the return pointer, each a pair with its low byte first.
-#[derive(Clone, Copy)]
+#[derive(Clone, Copy, PartialEq, Eq, Debug)]
 pub struct Cpu {
     pub registers: [u8; 64],
     pub arp: u8,

@@ -6,6 +6,6 @@ mod mar;
 mod status;
 
 pub use cpu::Cpu;
-pub use cpu::rows::span;
+pub use cpu::rows::{Form, span};
 pub use mar::Mar;
 pub use status::Status;

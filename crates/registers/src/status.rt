@@ -1,8 +1,8 @@
 // The status bits.
-ghost use Rattle.std.specs.Prelude.{◌≡◌, ◌≤◌};
-ghost use Rattle.registers.specs.Bits.{bit_of, status_byte, clear};
+ghost use Rattle.std.specs.Prelude.{◌≡◌};
+ghost use Rattle.registers.specs.Bits.{status_byte, clear};
 
-#[derive(Clone, Copy)]
+#[derive(Clone, Copy, PartialEq, Eq, Default, Debug)]
 pub struct Status {
     // Decimal mode.
     pub dcm: bool,
@@ -25,31 +25,22 @@ impl Status {
     pub fn clear() -> Status
         ensures { result ≡ clear }
     {
-        Status {
-            dcm: false,
-            cy: false,
-            ovf: false,
-            lsb: false,
-            msb: false,
-            z: false,
-            ldz: false,
-            rdz: false,
-        }
-    }
-
-    // The eight bits as one byte, DCM in bit 0.
-    pub fn byte(self) -> u8
-        ensures { result ≡ status_byte self }
-    {
-        let low = bit(self.dcm) + 2 * bit(self.cy) + 4 * bit(self.ovf) + 8 * bit(self.lsb);
-        let high = bit(self.msb) + 2 * bit(self.z) + 4 * bit(self.ldz) + 8 * bit(self.rdz);
-        low + 16 * high
+        Status::default()
     }
 }
 
-fn bit(set: bool) -> u8
-    ensures value { result ≡ bit_of set }
-    ensures bound { result ≤ 1 }
-{
-    if set { 1 } else { 0 }
+// The eight bits as one byte, DCM in bit 0.
+impl From<Status> for u8 {
+    ghost from_gives = { λ s r. r ≡ status_byte s };
+
+    fn from(status: Status) -> u8 {
+        u8::from(status.dcm)
+            + 2 * u8::from(status.cy)
+            + 4 * u8::from(status.ovf)
+            + 8 * u8::from(status.lsb)
+            + 16 * u8::from(status.msb)
+            + 32 * u8::from(status.z)
+            + 64 * u8::from(status.ldz)
+            + 128 * u8::from(status.rdz)
+    }
 }

@@ -5,17 +5,22 @@ ghost use Rattle.registers.specs.Rows.{register_at, pair_at, row_at, with_pair, 
 
 use crate::cpu::Cpu;
 
+// Byte forms work on one register, multi forms on as many as DRP says.
+#[derive(Clone, Copy, PartialEq, Eq, Debug)]
+pub enum Form {
+    Byte,
+    Multi,
+}
+
 // How many registers a form works on: one for a byte form; for a multi form those up to the next boundary, which below
 // R40 lies at every second register, and from R40 on at every eighth.
-pub fn span(multi: bool, drp: u8) -> usize
-    ensures { result ≡ span_of multi drp }
+pub fn span(form: Form, drp: u8) -> usize
+    ensures { result ≡ span_of form drp }
 {
-    if !multi {
-        1
-    } else if drp < 32 {
-        2 - usize::from(drp % 2)
-    } else {
-        8 - usize::from(drp % 8)
+    match form {
+        Form::Byte => 1,
+        Form::Multi if drp < 32 => 2 - usize::from(drp % 2),
+        Form::Multi => 8 - usize::from(drp % 8),
     }
 }
 
@@ -23,8 +28,7 @@ impl Cpu {
     pub fn register(&self, k: u8) -> u8
         ensures { result ≡ register_at self.now.registers k }
     {
-        let at = usize::from(k % 64);
-        self.registers[at]
+        self.registers[usize::from(k % 64)]
     }
 
     // The pair of register k and the next one, low byte first.
@@ -38,30 +42,26 @@ impl Cpu {
     pub fn set_pair(&mut self, k: u8, value: u16)
         ensures { state_of self.new ≡ with_pair (state_of self.old) k value }
     {
-        let [low, high] = value.to_le_bytes();
-        self.registers[usize::from(k % 64)] = low;
-        self.registers[usize::from(k.wrapping_add(1) % 64)] = high;
+        self.write_row(k, &value.to_le_bytes());
     }
 
     // Fills the row with the registers from k on.
+    #[tactic(auto, using(std::proofs::lemmas::Grind::common_steps, crate::proofs::Rows::row_more))]
     pub fn read_row(&self, k: u8, row: &mut [u8])
         ensures { row.new ≡ row_at self.now.registers k (length row.old) }
     {
-        let mut k = k;
-        for (_i, byte) in row.iter_mut().enumerate() {
-            *byte = self.register(k);
-            k = k.wrapping_add(1);
+        for (i, byte) in row.iter_mut().enumerate() {
+            *byte = self.registers[(usize::from(k) + i) % 64];
         }
     }
 
     // Writes the row to the registers from k on; nothing else changes.
+    #[tactic(auto, using(std::proofs::lemmas::Grind::common_steps, crate::proofs::Rows::with_more))]
     pub fn write_row(&mut self, k: u8, row: &[u8])
         ensures { state_of self.new ≡ with_row (state_of self.old) k row.now }
     {
-        let mut k = k;
-        for byte in row {
-            self.registers[usize::from(k % 64)] = *byte;
-            k = k.wrapping_add(1);
+        for (i, byte) in row.iter().enumerate() {
+            self.registers[(usize::from(k) + i) % 64] = *byte;
         }
     }
 }

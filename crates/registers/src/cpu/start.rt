@@ -8,29 +8,26 @@ use crate::status::Status;
 
 impl Cpu {
     // All zero but the program counter and the return pointer.
+    #[tactic(auto, unfolding(crate::specs::State::began, byte_rows::specs::Rows::zeros))]
     pub fn new(pc: u16, return_pointer: u16) -> Cpu
         ensures { state_of result ≡ began pc return_pointer }
     {
-        let [pc_low, pc_high] = pc.to_le_bytes();
-        let [return_low, return_high] = return_pointer.to_le_bytes();
-        let mut registers = [0u8; 64];
-        registers[4] = pc_low;
-        registers[5] = pc_high;
-        registers[6] = return_low;
-        registers[7] = return_high;
-        Cpu {
-            registers,
+        let mut cpu = Cpu {
+            registers: [0; 64],
             arp: 0,
             drp: 0,
             status: Status::clear(),
             e: 0,
-        }
+        };
+        cpu.set_pair(4, pc);
+        cpu.set_pair(6, return_pointer);
+        cpu
     }
 
     // The program counter.
     pub fn pc(&self) -> u16
         ensures { result ≡ pc_of (state_of self.now) }
     {
-        u16::from_le_bytes([self.registers[4], self.registers[5]])
+        self.pair(4)
     }
 }
