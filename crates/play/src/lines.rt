@@ -55,7 +55,7 @@ fn put_end(out: &mut [u8], read_out: ReadOut) -> usize
             space,
             Piece::Hex1(read_out.e),
             space,
-            Piece::Hex2(read_out.status.byte()),
+            Piece::Hex2(u8::from(read_out.status)),
             newline,
             r,
             Piece::Octal2(0),

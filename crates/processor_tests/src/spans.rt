@@ -1,15 +1,15 @@
 // How many registers an instruction works on, and rows of them across R77.
-use registers::{Cpu, span};
+use registers::{Cpu, Form, span};
 
 // From R42 on an instruction works on six registers, not on eight.
 #[test]
 fn six_from_r42(rt: HostRuntime) {
-    assert_eq!(rt; span(true, 0o42), 6);
-    assert_eq!(rt; span(true, 0o40), 8);
-    assert_eq!(rt; span(true, 0o77), 1);
-    assert_eq!(rt; span(true, 0o30), 2);
-    assert_eq!(rt; span(true, 0o31), 1);
-    assert_eq!(rt; span(false, 0o40), 1);
+    assert_eq!(rt; span(Form::Multi, 0o42), 6);
+    assert_eq!(rt; span(Form::Multi, 0o40), 8);
+    assert_eq!(rt; span(Form::Multi, 0o77), 1);
+    assert_eq!(rt; span(Form::Multi, 0o30), 2);
+    assert_eq!(rt; span(Form::Multi, 0o31), 1);
+    assert_eq!(rt; span(Form::Byte, 0o40), 1);
 }
 
 #[test]
