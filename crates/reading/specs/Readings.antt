@@ -1,10 +1,10 @@
 -- The readings that instructions are made of.
-use Rattle.std.specs.Prelude.{◌≡◌, ℕ, zero, suc, ◌+◌, ◌%◌, List, [], ◌∷◌, Ok, Err, Option, Result}
+use Rattle.std.specs.Prelude.{◌≡◌, ℕ, zero, suc, ◌+◌, ◌%◌, List, [], ◌∷◌, ◌++◌, Ok, Err, Option, Result}
 use Rattle.byte_rows.specs.Rows.{pair}
 use Rattle.bus.specs.declared.refusal.BusRefusal.{BusRefusal}
 use Rattle.reading.specs.declared.fault.Fault.{Fault}
 use Rattle.reading.specs.Sheets.{noted}
-use Rattle.reading.specs.Trees.{Tree, done, ask, came, asked, bind}
+use Rattle.reading.specs.Trees.{Tree, done, ask, came, asked}
 
 -- Addresses wrap: after 65,535 comes 0.
 abbrev pub next : ℕ → ℕ
@@ -16,10 +16,14 @@ byte_tree a = ask a (λ b. done b)
 abbrev pub pair_tree : ℕ → Tree ℕ
 pair_tree a = ask a (λ low. ask (next a) (λ high. done (pair low high)))
 
+-- n bytes upward, after those that were read before.
+abbrev pub row_after : List ℕ → ℕ → ℕ → Tree (List ℕ)
+row_after before zero a = done before
+row_after before (suc n) a = ask a (λ b. row_after (before ++ b ∷ []) n (next a))
+
 -- n bytes upward.
 abbrev pub row_tree : ℕ → ℕ → Tree (List ℕ)
-row_tree zero a = done []
-row_tree (suc n) a = ask a (λ b. bind (row_tree n (next a)) (λ bs. done (b ∷ bs)))
+row_tree n a = row_after [] n a
 
 -- With `before` told before the tree is read, r comes of it and `after` is told after it.
 pub record Reads {A : Type 0} (reads : ℕ → Result ℕ BusRefusal) (sheet : List ℕ) (t : Tree A) (before : Option ℕ) (r : Result A Fault) (after : Option ℕ) : Type 0 where
@@ -31,7 +35,7 @@ abbrev pub row_with : List ℕ → Result (Unit {0}) Fault → Result (List ℕ)
 row_with row (Ok u) = Ok row
 row_with row (Err f) = Err f
 
-abbrev pub got_by : Result ℕ BusRefusal → ℕ → List ℕ → List ℕ → List ℕ
+abbrev pub got_by : {E : Type 0} → Result ℕ E → ℕ → List ℕ → List ℕ → List ℕ
 got_by (Ok b) x xs more = b ∷ more
 got_by (Err r) x xs more = x ∷ xs
 

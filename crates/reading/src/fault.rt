@@ -4,7 +4,7 @@ ghost use Rattle.reading.specs.Faults.{fault_number};
 
 use bus::BusRefusal;
 
-#[derive(Clone, Copy)]
+#[derive(Clone, Copy, PartialEq, Eq, Debug)]
 pub enum Fault {
     // The bus refused at the address.
     Bus { address: u16, refusal: BusRefusal },

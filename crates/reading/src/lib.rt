@@ -6,4 +6,4 @@ mod fault;
 mod reads;
 
 pub use fault::Fault;
-pub use reads::{is_stained, read_byte, read_pair, read_row};
+pub use reads::{BusReader, is_stained};

@@ -14,53 +14,67 @@ pub fn is_stained(sheet: &[u8], address: u16) -> bool
     (byte_at(sheet, usize::from(address / 8)) >> (address % 8)) % 2 == 1
 }
 
-// Reads one byte, and notes the address if it is the first that is stained.
-pub fn read_byte<B: Bus>(
-    bus: &B,
-    sheet: &[u8],
-    told: &mut Option<u16>,
-    address: u16,
-) -> Result<u8, Fault>
-    ensures { Reads (B.Bus.meaning bus.now).reads sheet.now (byte_tree address) told.old result told.new }
-{
-    if told.is_none() && is_stained(sheet, address) {
-        *told = Some(address);
-    }
-    match bus.read(address) {
-        Ok(byte) => Ok(byte),
-        Err(refusal) => Err(Fault::Bus { address, refusal }),
-    }
+// Reads a bus beside its sheet.
+#[derive(Drop)]
+pub struct BusReader<'a, B> {
+    bus: &'a B,
+    sheet: &'a [u8],
+    // The first stained address that was read.
+    pub told: Option<u16>,
 }
 
-// Reads a pair, low byte first. The address after 65,535 is 0.
-pub fn read_pair<B: Bus>(
-    bus: &B,
-    sheet: &[u8],
-    told: &mut Option<u16>,
-    address: u16,
-) -> Result<u16, Fault>
-    ensures { Reads (B.Bus.meaning bus.now).reads sheet.now (pair_tree address) told.old result told.new }
-{
-    let low = read_byte(bus, sheet, told, address)?;
-    let high = read_byte(bus, sheet, told, address.wrapping_add(1))?;
-    Ok(u16::from_le_bytes([low, high]))
-}
-
-// Fills the row with the bytes from the address on, upward.
-pub fn read_row<B: Bus>(
-    bus: &B,
-    sheet: &[u8],
-    told: &mut Option<u16>,
-    address: u16,
-    row: &mut [u8],
-) -> Result<(), Fault>
-    ensures read { Reads (B.Bus.meaning bus.now).reads sheet.now (row_tree (length row.old) address) told.old (row_with row.new result) told.new }
-    ensures got { row.new ≡ row_got (B.Bus.meaning bus.now).reads address row.old }
-{
-    let mut at = address;
-    for (_i, byte) in row.iter_mut().enumerate() {
-        *byte = read_byte(bus, sheet, told, at)?;
-        at = at.wrapping_add(1);
+impl<'a, B: Bus> BusReader<'a, B> {
+    // Nothing is told yet.
+    pub fn new(bus: &'a B, sheet: &'a [u8]) -> BusReader<'a, B>
+        ensures bus { result.bus.now ≡ bus.now }
+        ensures sheet { result.sheet.now ≡ sheet.now }
+        ensures told { result.told ≡ None }
+    {
+        BusReader {
+            bus,
+            sheet,
+            told: None,
+        }
     }
-    Ok(())
+
+    // Reads one byte, and notes the address if it is the first that is stained.
+    pub fn byte(&mut self, address: u16) -> Result<u8, Fault>
+        ensures read { Reads (B.Bus.meaning self.old.bus.now).reads self.old.sheet.now (byte_tree address) self.old.told result self.new.told }
+        ensures bus { self.new.bus.now ≡ self.old.bus.now }
+        ensures sheet { self.new.sheet.now ≡ self.old.sheet.now }
+    {
+        if self.told.is_none() && is_stained(self.sheet, address) {
+            self.told = Some(address);
+        }
+        self.bus
+            .read(address)
+            .map_err(|refusal| Fault::Bus { address, refusal })
+    }
+
+    // Reads a pair, low byte first. The address after 65,535 is 0.
+    pub fn pair(&mut self, address: u16) -> Result<u16, Fault>
+        ensures read { Reads (B.Bus.meaning self.old.bus.now).reads self.old.sheet.now (pair_tree address) self.old.told result self.new.told }
+        ensures bus { self.new.bus.now ≡ self.old.bus.now }
+        ensures sheet { self.new.sheet.now ≡ self.old.sheet.now }
+    {
+        let low = self.byte(address)?;
+        let high = self.byte(address.wrapping_add(1))?;
+        Ok(u16::from_le_bytes([low, high]))
+    }
+
+    // Fills the row with the bytes from the address on, upward.
+    pub fn row(&mut self, address: u16, row: &mut [u8]) -> Result<(), Fault>
+        ensures read { Reads (B.Bus.meaning self.old.bus.now).reads self.old.sheet.now (row_tree (length row.old) address) self.old.told (row_with row.new result) self.new.told }
+        ensures got { row.new ≡ row_got (B.Bus.meaning self.old.bus.now).reads address row.old }
+        ensures bus { self.new.bus.now ≡ self.old.bus.now }
+        ensures sheet { self.new.sheet.now ≡ self.old.sheet.now }
+    {
+        // The address goes on by hand: a range of addresses would end at 65,535, and a row of any length may wrap.
+        let mut at = address;
+        for byte in row.iter_mut() {
+            *byte = self.byte(at)?;
+            at = at.wrapping_add(1);
+        }
+        Ok(())
+    }
 }
