@@ -1,6 +1,6 @@
 // Reads across address 65,535, a refused one, and the stained address told.
-use bus::{Bus, Ram};
-use reading::{Fault, is_stained, read_byte, read_pair, read_row};
+use bus::{Bus, BusRefusal, Cause, Ram};
+use reading::{BusReader, Fault, is_stained};
 use std::process::Abort;
 use std::test::Fail;
 
@@ -8,19 +8,19 @@ use std::test::Fail;
 fn ram(rt: &(impl Abort + AllocGlobal), size: usize) -> Result<Ram, Fail> {
     let bytes = vec![in rt.alloc(); 7u8; size]?;
     let mut ram = Ram { base: 0, bytes };
-    assert!(rt; ram.store(0, 1).is_ok());
+    assert_eq!(rt; ram.store(0, 1), Ok(()));
     Ok(ram)
 }
 
 #[test]
 fn across_the_last_address(rt: HostRuntime) -> Result<(), Fail> {
     let ram = ram(&rt, 65_536)?;
-    let mut told = None;
+    let mut reader = BusReader::new(&ram, &[]);
     let mut row = [0; 3];
-    assert_eq!(rt; read_pair(&ram, &[], &mut told, 65_535).ok(), Some(0x0107));
-    assert!(rt; read_row(&ram, &[], &mut told, 65_535, &mut row).is_ok());
+    assert_eq!(rt; reader.pair(65_535), Ok(0x0107));
+    assert_eq!(rt; reader.row(65_535, &mut row), Ok(()));
     assert_eq!(rt; row, [7, 1, 7]);
-    assert_eq!(rt; told, None);
+    assert_eq!(rt; reader.told, None);
     Ok(())
 }
 
@@ -28,13 +28,14 @@ fn across_the_last_address(rt: HostRuntime) -> Result<(), Fail> {
 #[test]
 fn refused(rt: HostRuntime) -> Result<(), Fail> {
     let ram = ram(&rt, 10)?;
-    let mut told = None;
     let mut row = [0; 3];
-    let refused = match read_row(&ram, &[], &mut told, 8, &mut row) {
-        Err(Fault::Bus { address, refusal }) => Some((address, refusal.cause.number())),
-        _ => None,
+    let refusal = BusRefusal::here(Cause::NoByte);
+    let fault = Fault::Bus {
+        address: 10,
+        refusal,
     };
-    assert_eq!(rt; refused, Some((10, 4)));
+    assert_eq!(rt; BusReader::new(&ram, &[]).row(8, &mut row), Err(fault));
+    assert_eq!(rt; fault.number(), 4);
     assert_eq!(rt; row, [7, 7, 0]);
     Ok(())
 }
@@ -46,12 +47,12 @@ fn stained(rt: HostRuntime) -> Result<(), Fail> {
     let sheet = [0, 0b0001_1000, 0];
     assert!(rt; is_stained(&sheet, 11));
     assert!(rt; !is_stained(&sheet, 10));
-    let mut told = None;
-    assert_eq!(rt; read_byte(&ram, &sheet, &mut told, 10).ok(), Some(7));
-    assert_eq!(rt; told, None);
-    assert_eq!(rt; read_pair(&ram, &sheet, &mut told, 11).ok(), Some(0x0707));
-    assert_eq!(rt; told, Some(11));
-    assert_eq!(rt; read_byte(&ram, &sheet, &mut told, 12).ok(), Some(7));
-    assert_eq!(rt; told, Some(11));
+    let mut reader = BusReader::new(&ram, &sheet);
+    assert_eq!(rt; reader.byte(10), Ok(7));
+    assert_eq!(rt; reader.told, None);
+    assert_eq!(rt; reader.pair(11), Ok(0x0707));
+    assert_eq!(rt; reader.told, Some(11));
+    assert_eq!(rt; reader.byte(12), Ok(7));
+    assert_eq!(rt; reader.told, Some(11));
     Ok(())
 }
