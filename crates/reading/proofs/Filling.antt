@@ -3,8 +3,8 @@ use Rattle.std.proofs.Common.{◌≡◌, ℕ, ◌+◌, ◌<◌, List, [], ◌∷
 use Rattle.std.proofs.lemmas.List.{take_more_set, drop-set-lt, drop_more}
 use Rattle.bus.specs.declared.refusal.BusRefusal.{BusRefusal}
 use Rattle.reading.specs.declared.fault.Fault.{Fault}
-use Rattle.reading.specs.Sheets.{note, noted}
-use Rattle.reading.specs.Trees.{Tree, ask, heard, onward, came, asked}
+use Rattle.reading.specs.Sheets.{noted}
+use Rattle.reading.specs.Trees.{Tree, heard, onward, came, asked}
 use Rattle.reading.specs.Readings.{next, byte_tree, row_after, row_tree, Reads, got_by, row_got}
 
 module _ (reads : ℕ → Result ℕ BusRefusal) (sheet : List ℕ) where
