@@ -44,11 +44,9 @@ impl Cold {
         if bytes.is_empty() {
             return Err(LoadFault::Empty);
         }
-        if memory.load(address, bytes) {
-            Ok(())
-        } else {
-            Err(LoadFault::PastMemory)
-        }
+        memory
+            .load(address, bytes)
+            .map_err(|_| LoadFault::PastMemory)
     }
 
     // Goes into service: all of the processor's state is zero but the program counter and the return pointer.

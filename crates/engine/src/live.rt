@@ -11,7 +11,7 @@ pub struct Live {
 
 // What an exchange ends with. It is no `Cpu`: the rules say what ends with any state, and a `Cpu` is bound to have its pointers
 // and E in range.
-#[derive(Clone, Copy)]
+#[derive(Clone, Copy, PartialEq, Eq, Debug)]
 pub struct ReadOut {
     pub registers: [u8; 64],
     pub arp: u8,
