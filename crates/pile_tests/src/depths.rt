@@ -13,7 +13,7 @@ fn refused_at_each<B: Bus + Drop>(
 ) -> Result<(), Fail> {
     let mut pile = bottom;
     for height in 0..300u16 {
-        let depth = if height < 255 { height as u8 } else { 255 };
+        let depth = height.min(255) as u8;
         assert_eq!(rt; pile.inquire(address), Err(BusRefusal { cause, depth }));
         pile = pile.guarded(rt.alloc(), 1, 0)?;
     }
@@ -56,7 +56,7 @@ fn outside_shadow(rt: HostRuntime) -> Result<(), Fail> {
 fn unreadable(rt: HostRuntime) -> Result<(), Fail> {
     let mut pile = Pile::new(ram(&rt)?);
     for height in 0..300u16 {
-        let depth = if height < 255 { height as u8 } else { 255 };
+        let depth = height.min(255) as u8;
         let cause = Cause::NoByte;
         assert_eq!(rt; pile.read(600), Err(BusRefusal { cause, depth }));
         assert_eq!(rt; pile.read(599), Ok(7));

@@ -1,5 +1,6 @@
 // The first and last address of each kind of bus, and one past each end.
 use bus::{Bus, BusRefusal, Cause, LineBoard, Ram, Rom, Trunk};
+use byte_rows::PastEnd;
 use std::test::Fail;
 
 fn no_byte() -> BusRefusal {
@@ -19,8 +20,8 @@ fn ram_at_the_top(rt: HostRuntime) -> Result<(), Fail> {
     assert_eq!(rt; ram.read(65531), Ok(5));
     assert_eq!(rt; ram.read(65535), Ok(2));
     assert_eq!(rt; ram.read(0), Err(no_byte()));
-    assert_eq!(rt; ram.load(65534, b"ab"), true);
-    assert_eq!(rt; ram.load(65534, b"abc"), false);
+    assert_eq!(rt; ram.load(65534, b"ab"), Ok(()));
+    assert_eq!(rt; ram.load(65534, b"abc"), Err(PastEnd));
     Ok(())
 }
 
@@ -51,14 +52,14 @@ fn rom(rt: HostRuntime) {
 
 #[test]
 fn line_board(rt: HostRuntime) {
-    let mut board = LineBoard::new(32768, [Trunk::of_byte(0); 16]);
+    let mut board = LineBoard::new(32768, [Trunk::from(0); 16]);
     assert_eq!(rt; board.store(32768, 0x3A), Ok(()));
     assert_eq!(rt; board.trunk(0), Trunk::new(3, 10));
-    assert_eq!(rt; board.rewrite(15, Trunk::of_byte(0xF1)), true);
+    assert_eq!(rt; board.rewrite(15, Trunk::from(0xF1)), Some(Trunk::from(0)));
     assert_eq!(rt; board.read(32783), Ok(0xF1));
     assert_eq!(rt; board.read(32784), Err(no_byte()));
     assert_eq!(rt; board.read(32767), Err(no_byte()));
     assert_eq!(rt; board.trunk(16), None);
-    assert_eq!(rt; board.rewrite(16, Trunk::of_byte(1)), false);
+    assert_eq!(rt; board.rewrite(16, Trunk::from(1)), None);
     assert_eq!(rt; Trunk::new(16, 0), None);
 }

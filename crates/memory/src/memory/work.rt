@@ -5,6 +5,7 @@ ghost use Rattle.memory.specs.Pile.{meaning_of, rules_of};
 
 use crate::memory::Memory;
 use bus::{Bus, BusRefusal, LineBoard, Loadable, Ram, Trunk};
+use byte_rows::PastEnd;
 use layers::{Guard, Split};
 use std::alloc::{AllocError, Global};
 
@@ -19,7 +20,7 @@ impl Memory {
             last: 255,
             below: Ram { base: 0, bytes },
         };
-        let high = LineBoard::new(32768, [Trunk::of_byte(0); 16]);
+        let high = LineBoard::new(32768, [Trunk::from(0); 16]);
         let pile = Split {
             at: 32768,
             low,
@@ -55,7 +56,8 @@ impl Bus for Memory {
 impl Loadable for Memory {
     ghost room = { 32768 };
 
-    fn load(&mut self, address: u16, bytes: &[u8]) -> bool {
+    #[tactic(auto, using(crate::proofs::Loads::loaded_behind))]
+    fn load(&mut self, address: u16, bytes: &[u8]) -> Result<(), PastEnd> {
         self.pile.low.below.load(address, bytes)
     }
 }
