@@ -13,7 +13,7 @@ use crate::sums::combine;
 use counting::{Link, check};
 use registers::Status;
 
-#[derive(Clone, Copy)]
+#[derive(Clone, Copy, PartialEq, Eq, Debug)]
 pub enum Operation {
     ExtendedLeft,
     ExtendedRight,

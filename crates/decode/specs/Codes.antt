@@ -2,8 +2,8 @@
 use Rattle.std.specs.Prelude.{ℕ, ◌-◌, ◌/◌, ◌%◌, Bool, true, false, cond, Some, None, Option, ◌==◌, nat_lt}
 use Rattle.alu.specs.declared.operations.Operation.{Operation}
 use Rattle.alu.specs.declared.operations.Operation.TheVariants as op
-use Rattle.decode.specs.declared.instruction.Form.{Form}
-use Rattle.decode.specs.declared.instruction.Form.TheVariants.{Byte, Multi}
+use Rattle.registers.specs.declared.cpu.rows.Form.{Form}
+use Rattle.registers.specs.declared.cpu.rows.Form.TheVariants.{Byte, Multi}
 use Rattle.decode.specs.declared.instruction.Mode.{Mode}
 use Rattle.decode.specs.declared.instruction.Mode.TheVariants as mode
 use Rattle.decode.specs.declared.instruction.Source.{Source}
@@ -58,6 +58,11 @@ abbrev pub stack_of : Bool → Bool → Mode
 stack_of false i = mode.StackUp i
 stack_of true i = mode.StackDown i
 
+-- LD and PO load; ST and PU store.
+abbrev pub transfer_of : Bool → Mode → Form → Instruction
+transfer_of true m f = instruction.Compute op.Load m f
+transfer_of false m f = instruction.Store m f
+
 -- Codes C0 to DF, by row and low three bits: CM, AD, SB in both forms, AN multi; JSB in the first two rows.
 abbrev pub sum_of : ℕ → ℕ → Option Instruction
 sum_of r k =
@@ -80,7 +85,7 @@ decoded c =
     (cond (nat_lt c 0x90) (Some (instruction.Compute (count_of ((c - 0x88) / 2)) mode.None (form_of c)))
     (cond (nat_lt c 0x98) (Some (logic_of ((c - 0x90) / 2) (form_of c)))
     (cond (nat_lt c 0xA0) (Some (instruction.Control (control_of (c - 0x98))))
-    (cond (nat_lt c 0xC0) (Some (of2 (c / 2 % 2) (instruction.Compute op.Load (mode_of ((c - 0xA0) / 4)) (form_of c)) (instruction.Store (mode_of ((c - 0xA0) / 4)) (form_of c))))
+    (cond (nat_lt c 0xC0) (Some (transfer_of (c / 2 % 2 == 0) (mode_of ((c - 0xA0) / 4)) (form_of c)))
     (cond (nat_lt c 0xE0) (sum_of ((c - 0xC0) / 8) (c % 8))
-    (cond (nat_lt c 0xF0) (Some (of2 (c / 4 % 2) (instruction.Compute op.Load (stack_of (c / 2 % 2 == 1) (c / 8 % 2 == 1)) (form_of c)) (instruction.Store (stack_of (c / 2 % 2 == 1) (c / 8 % 2 == 1)) (form_of c))))
+    (cond (nat_lt c 0xF0) (Some (transfer_of (c / 4 % 2 == 0) (stack_of (c / 2 % 2 == 1) (c / 8 % 2 == 1)) (form_of c)))
     (Some (instruction.Jump (condition_of (c - 0xF0))))))))))))

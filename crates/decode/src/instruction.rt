@@ -1,15 +1,9 @@
 // Instructions.
 use alu::Operation;
-
-// Byte forms work on one register, multi forms on as many as DRP says.
-#[derive(Clone, Copy)]
-pub enum Form {
-    Byte,
-    Multi,
-}
+use registers::Form;
 
 // Where the operand is, or where a store goes.
-#[derive(Clone, Copy)]
+#[derive(Clone, Copy, PartialEq, Eq, Debug)]
 pub enum Mode {
     None,
     Register,
@@ -27,14 +21,14 @@ pub enum Mode {
 }
 
 // What ARP or DRP is set to: a number, or what R0 holds.
-#[derive(Clone, Copy)]
+#[derive(Clone, Copy, PartialEq, Eq, Debug)]
 pub enum Source {
     Number(u8),
     R0,
 }
 
 // BIN, BCD, SAD, DCE, ICE, CLE, RTN, PAD.
-#[derive(Clone, Copy)]
+#[derive(Clone, Copy, PartialEq, Eq, Debug)]
 pub enum Control {
     Binary,
     Decimal,
@@ -47,7 +41,7 @@ pub enum Control {
 }
 
 // When a jump is taken.
-#[derive(Clone, Copy)]
+#[derive(Clone, Copy, PartialEq, Eq, Debug)]
 pub enum Condition {
     Always,
     NoOverflow,
@@ -68,7 +62,7 @@ pub enum Condition {
 }
 
 // LD and PO compute a load; ST and PU store.
-#[derive(Clone, Copy)]
+#[derive(Clone, Copy, PartialEq, Eq, Debug)]
 pub enum Instruction {
     SetArp(Source),
     SetDrp(Source),

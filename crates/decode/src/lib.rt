@@ -2,13 +2,14 @@
 #![tactic(auto)]
 
 ghost use Rattle.std.specs.Prelude.{◌≡◌, ◌<◌, not};
-ghost use Rattle.decode.specs.Codes.{form_of, source_of, shift_of, count_of, logic_of, control_of, mode_of, sum_mode_of, stack_of, sum_of, condition_of, decoded};
+ghost use Rattle.decode.specs.Codes.{form_of, source_of, shift_of, count_of, logic_of, control_of, mode_of, sum_mode_of, stack_of, transfer_of, sum_of, condition_of, decoded};
 ghost use Rattle.decode.specs.OneToOne.{illegal, CodesAreOneToOne};
 
 mod instruction;
 
 use alu::Operation;
-pub use instruction::{Condition, Control, Form, Instruction, Mode, Source};
+pub use instruction::{Condition, Control, Instruction, Mode, Source};
+pub use registers::Form;
 
 fn form(code: u8) -> Form
     ensures { result ≡ form_of code }
@@ -54,12 +55,13 @@ fn count(n: u8) -> Operation
 fn logic(n: u8, form: Form) -> Instruction
     ensures { result ≡ logic_of n form }
 {
-    match n {
-        0 => Instruction::Compute(Operation::Test, Mode::None, form),
-        1 => Instruction::Compute(Operation::Clear, Mode::None, form),
-        2 => Instruction::Compute(Operation::Or, Mode::Register, form),
-        _ => Instruction::Compute(Operation::ExclusiveOr, Mode::Register, form),
-    }
+    let (operation, mode) = match n {
+        0 => (Operation::Test, Mode::None),
+        1 => (Operation::Clear, Mode::None),
+        2 => (Operation::Or, Mode::Register),
+        _ => (Operation::ExclusiveOr, Mode::Register),
+    };
+    Instruction::Compute(operation, mode, form)
 }
 
 fn control(n: u8) -> Control
@@ -115,9 +117,19 @@ fn stack(down: bool, indirect: bool) -> Mode
     }
 }
 
+// LD and PO load; ST and PU store.
+fn transfer(loads: bool, mode: Mode, form: Form) -> Instruction
+    ensures { result ≡ transfer_of loads mode form }
+{
+    if loads {
+        Instruction::Compute(Operation::Load, mode, form)
+    } else {
+        Instruction::Store(mode, form)
+    }
+}
+
 // Codes C0 to DF, by row and low three bits.
 fn sum(row: u8, low: u8) -> Option<Instruction>
-    requires { (row < 4) × (low < 8) }
     ensures { result ≡ sum_of row low }
 {
     let mode = sum_mode(row);
@@ -160,29 +172,25 @@ pub fn decode(code: u8) -> Option<Instruction>
     ensures { result ≡ decoded code }
 {
     let form = form(code);
-    let found = match code {
+    Some(match code {
         0x00..=0x3F => Instruction::SetArp(source(code)),
         0x40..=0x7F => Instruction::SetDrp(source(code - 0x40)),
         0x80..=0x87 => Instruction::Compute(shift((code - 0x80) / 2), Mode::None, form),
         0x88..=0x8F => Instruction::Compute(count((code - 0x88) / 2), Mode::None, form),
         0x90..=0x97 => logic((code - 0x90) / 2, form),
         0x98..=0x9F => Instruction::Control(control(code - 0x98)),
-        0xA0..=0xBF if code / 2 % 2 == 0 => {
-            Instruction::Compute(Operation::Load, mode((code - 0xA0) / 4), form)
-        }
-        0xA0..=0xBF => Instruction::Store(mode((code - 0xA0) / 4), form),
-        0xC0..=0xDF => return sum((code - 0xC0) / 8, code % 8),
-        0xE0..=0xEF if code / 4 % 2 == 0 => {
+        0xA0..=0xBF => transfer(code / 2 % 2 == 0, mode((code - 0xA0) / 4), form),
+        0xC0..=0xDF => sum((code - 0xC0) / 8, code % 8)?,
+        0xE0..=0xEF => {
             let mode = stack(code / 2 % 2 == 1, code / 8 % 2 == 1);
-            Instruction::Compute(Operation::Load, mode, form)
+            transfer(code / 4 % 2 == 0, mode, form)
         }
-        0xE0..=0xEF => Instruction::Store(stack(code / 2 % 2 == 1, code / 8 % 2 == 1), form),
         0xF0..=0xFF => Instruction::Jump(condition(code - 0xF0)),
-    };
-    Some(found)
+    })
 }
 
 // Whether the code is one of an instruction. No instruction has two codes.
+#[tactic(auto, using(crate::proofs::Table::legal))]
 pub fn is_legal(code: u8) -> bool
     ensures test { result ≡ not (illegal code) }
     ensures one_code { CodesAreOneToOne }

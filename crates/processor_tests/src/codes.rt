@@ -11,23 +11,17 @@ fn two_codes_are_illegal(rt: HostRuntime) {
 // 22 sets ARP to R42; B2 and B3 store by a literal address, one register or many; 01 takes ARP from R0.
 #[test]
 fn a_store(rt: HostRuntime) {
-    assert!(rt;
-        matches!(
-            decode(0x22),
-            Some(Instruction::SetArp(Source::Number(0x22)))
-        )
+    assert_eq!(rt;
+        decode(0x22),
+        Some(Instruction::SetArp(Source::Number(0x22)))
     );
-    assert!(rt;
-        matches!(
-            decode(0xB2),
-            Some(Instruction::Store(Mode::LiteralDirect, Form::Byte))
-        )
+    assert_eq!(rt;
+        decode(0xB2),
+        Some(Instruction::Store(Mode::LiteralDirect, Form::Byte))
     );
-    assert!(rt;
-        matches!(
-            decode(0xB3),
-            Some(Instruction::Store(Mode::LiteralDirect, Form::Multi))
-        )
+    assert_eq!(rt;
+        decode(0xB3),
+        Some(Instruction::Store(Mode::LiteralDirect, Form::Multi))
     );
-    assert!(rt; matches!(decode(0x01), Some(Instruction::SetArp(Source::R0))));
+    assert_eq!(rt; decode(0x01), Some(Instruction::SetArp(Source::R0)));
 }
