@@ -9,7 +9,7 @@ use bus::Loadable;
 use registers::Cpu;
 
 // It holds nothing: its memory is lent at each call, and its processor begins at GO. Loading exists on it alone.
-#[derive(Drop)]
+#[derive(Drop, PartialEq, Eq, Debug)]
 pub struct Cold;
 
 // Why bytes were not loaded.
@@ -53,7 +53,6 @@ impl Cold {
     pub fn go(self, pc: u16, return_pointer: u16) -> Live
         ensures { live_state result ≡ began pc return_pointer }
     {
-        let Cold = self;
         Live {
             cpu: Cpu::new(pc, return_pointer),
         }

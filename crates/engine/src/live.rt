@@ -4,13 +4,13 @@ ghost use Rattle.engine.specs.States.{live_state, read_out_of};
 
 use registers::{Cpu, Status};
 
-#[derive(Drop)]
+#[derive(Drop, PartialEq, Eq, Debug)]
 pub struct Live {
     pub cpu: Cpu,
 }
 
-// What an exchange ends with. It is no `Cpu`: the rules say what ends with any state, and a `Cpu` is bound to have its pointers
-// and E in range.
+// What an exchange ends with. The rules make one of any state, so it has plain fields: a `Cpu` also holds that its pointers and E
+// are in range.
 #[derive(Clone, Copy, PartialEq, Eq, Debug)]
 pub struct ReadOut {
     pub registers: [u8; 64],
