@@ -49,6 +49,11 @@ pub record Worked : Type 0 where
   pub outcome : Result Event Refusal
   pub after : Scene
 
+-- A refused record ends the tape.
+abbrev pub worked : Result (Phase × Event) Refusal → List ℕ → Meaning → Worked
+worked (Ok p) s m = record { outcome = Ok p.1; after = scene (stage_of p.0) s m }
+worked (Err r) s m = record { outcome = Err r; after = scene refused s m }
+
 abbrev pub load_outcome : Result (Unit {0}) LoadFault → Result Event Refusal
 load_outcome (Ok _) = Ok Loaded
 load_outcome (Err f) = Err (Load f)

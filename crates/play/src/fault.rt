@@ -6,7 +6,7 @@ ghost use Rattle.play.specs.Numbers.{refusal_number};
 use engine::{LoadFault, ReadOut};
 use tape::TapeFault;
 
-#[derive(Clone, Copy)]
+#[derive(Clone, Copy, PartialEq, Eq, Debug)]
 pub enum Refusal {
     // The sheet has not 8,192 bytes.
     Sheet,
@@ -47,14 +47,14 @@ impl From<LoadFault> for Refusal {
 }
 
 // A refused record, and the offset at which it begins.
-#[derive(Clone, Copy)]
+#[derive(Clone, Copy, PartialEq, Eq, Debug)]
 pub struct PlayFault {
     pub offset: usize,
     pub refusal: Refusal,
 }
 
 // A record that was played.
-#[derive(Clone, Copy)]
+#[derive(Clone, Copy, PartialEq, Eq, Debug)]
 pub enum Event {
     Loaded,
     Began,
@@ -62,7 +62,7 @@ pub enum Event {
 }
 
 // What came of a record, and how many bytes of lines were written.
-#[derive(Clone, Copy)]
+#[derive(Clone, Copy, PartialEq, Eq, Debug)]
 pub struct Played {
     pub wrote: usize,
     pub outcome: Result<Event, PlayFault>,

@@ -8,10 +8,12 @@ use crate::fault::{Event, PlayFault, Refusal};
 use engine::ReadOut;
 use text::{Piece, put};
 
+// The least size of a line buffer.
+pub const BUFFER_SIZE: usize = 512;
+
 // Writes the pieces at the front of the buffer, and says how many bytes they take.
-fn put_pieces(out: &mut [u8], pieces: &[Piece]) -> usize
-    requires buffer { 512 ≤ length out.old }
-    requires room { room pieces.now ≤ 512 }
+fn put_pieces(out: &mut [u8; BUFFER_SIZE], pieces: &[Piece]) -> usize
+    requires { room pieces.now ≤ 512 }
     ensures after { out.new ≡ over out.old 0 (joined pieces.now) }
     ensures size { result ≡ length (joined pieces.now) }
     ensures room { result ≤ 512 }
@@ -35,8 +37,7 @@ fn row(registers: &[u8; 64], from: usize) -> Piece
     ])
 }
 
-fn put_end(out: &mut [u8], read_out: ReadOut) -> usize
-    requires { 512 ≤ length out.old }
+fn put_end(out: &mut [u8; BUFFER_SIZE], read_out: ReadOut) -> usize
     ensures after { out.new ≡ over out.old 0 (joined (end_lines read_out)) }
     ensures size { result ≡ length (joined (end_lines read_out)) }
     ensures room { result ≤ 512 }
@@ -93,8 +94,7 @@ fn put_end(out: &mut [u8], read_out: ReadOut) -> usize
     )
 }
 
-fn put_no(out: &mut [u8], fault: PlayFault) -> usize
-    requires { 512 ≤ length out.old }
+fn put_no(out: &mut [u8; BUFFER_SIZE], fault: PlayFault) -> usize
     ensures after { out.new ≡ over out.old 0 (joined (no_line fault)) }
     ensures size { result ≡ length (joined (no_line fault)) }
     ensures room { result ≤ 512 }
@@ -114,8 +114,7 @@ fn put_no(out: &mut [u8], fault: PlayFault) -> usize
 }
 
 // Writes the lines of what came of a record at the front of the buffer, and says how many bytes they take.
-pub fn put_lines(out: &mut [u8], outcome: Result<Event, PlayFault>) -> usize
-    requires { 512 ≤ length out.old }
+pub fn put_lines(out: &mut [u8; BUFFER_SIZE], outcome: Result<Event, PlayFault>) -> usize
     ensures after { out.new ≡ over out.old 0 (lines_of outcome) }
     ensures size { result ≡ length (lines_of outcome) }
     ensures room { result ≤ 512 }

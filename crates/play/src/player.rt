@@ -5,17 +5,14 @@ ghost use Rattle.memory.specs.Pile.{meaning_of};
 ghost use Rattle.tape.specs.Records.{entry_of, size_of};
 ghost use Rattle.play.specs.Work.{stage_of, cold};
 ghost use Rattle.play.specs.Lines.{lines_of};
-ghost use Rattle.play.specs.Play.{world_of, tape_of, next_of, entry_in, performed_of, handled_of, play_of, over_of};
+ghost use Rattle.play.specs.Play.{world_of, tape_of, next_of, entry_in, performed_of, handled_of, at_offset, play_of, over_of};
 
 use crate::fault::{Event, PlayFault, Played, Refusal};
-use crate::lines::put_lines;
-use crate::phase::{Phase, work};
+use crate::lines::{BUFFER_SIZE, put_lines};
+use crate::phase::Phase;
 use engine::Cold;
 use memory::Memory;
 use tape::{Reader, Record};
-
-// The least size of a line buffer.
-const BUFFER_SIZE: usize = 512;
 
 // The size of a sheet.
 const SHEET_SIZE: usize = 8192;
@@ -44,8 +41,7 @@ impl<'a> Player<'a> {
         ensures { result ≡ over_of (stage_of self.now.phase) (tape_of self.now) self.now.reader.place }
     {
         match self.phase {
-            Phase::Loading(_) => false,
-            Phase::InService(_) => false,
+            Phase::Loading(_) | Phase::InService(_) => false,
             Phase::Ended => self.reader.is_at_end(),
             Phase::Refused => true,
         }
@@ -59,46 +55,37 @@ impl<'a> Player<'a> {
         if sheet.len() != SHEET_SIZE {
             return Err(Refusal::Sheet);
         }
-        let item = self.reader.peek(self.phase.turn())?;
-        Ok(item)
+        Ok(self.reader.peek(self.phase.turn())?)
     }
 
-    // Works the record, and passes it unless it is refused.
-    fn perform(
-        &mut self,
-        item: Record,
-        memory: &mut Memory,
-        sheet: &mut [u8],
-    ) -> Result<Event, Refusal>
-        requires { self.old.reader.place + size_of (entry_of item) ≤ length (tape_of self.old) }
-        ensures outcome { result ≡ (performed_of (entry_of item.entry) (world_of self.old sheet.old (meaning_of memory.old))).outcome }
-        ensures after { world_of self.new sheet.new (meaning_of memory.new) ≡ (performed_of (entry_of item.entry) (world_of self.old sheet.old (meaning_of memory.old))).after }
+    // Works the next record and passes it. One that is refused ends the tape, and stays where it is.
+    fn handle(&mut self, memory: &mut Memory, sheet: &[u8]) -> Result<Event, Refusal>
+        ensures outcome { result ≡ (handled_of (tape_of self.old) (world_of self.old sheet.now (meaning_of memory.old))).outcome }
+        ensures after { world_of self.new sheet.now (meaning_of memory.new) ≡ (handled_of (tape_of self.old) (world_of self.old sheet.now (meaning_of memory.old))).after }
         ensures tape { tape_of self.new ≡ tape_of self.old }
     {
+        let next = self.next(sheet);
         let phase = std::mem::replace(&mut self.phase, Phase::Refused);
-        let (phase, outcome) = work(phase, item, memory, sheet);
+        let item = next?;
+        let (phase, event) = phase.work(item, memory)?;
         self.phase = phase;
-        let event = outcome?;
         self.reader.pass(item);
         Ok(event)
     }
 
-    fn handle(&mut self, memory: &mut Memory, sheet: &mut [u8]) -> Result<Event, Refusal>
-        ensures outcome { result ≡ (handled_of (tape_of self.old) (world_of self.old sheet.old (meaning_of memory.old))).outcome }
-        ensures after { world_of self.new sheet.new (meaning_of memory.new) ≡ (handled_of (tape_of self.old) (world_of self.old sheet.old (meaning_of memory.old))).after }
+    // The same, with the offset of a refused record.
+    fn handle_at_place(&mut self, memory: &mut Memory, sheet: &[u8]) -> Result<Event, PlayFault>
+        ensures outcome { result ≡ at_offset self.old.reader.place (handled_of (tape_of self.old) (world_of self.old sheet.now (meaning_of memory.old))).outcome }
+        ensures after { world_of self.new sheet.now (meaning_of memory.new) ≡ (handled_of (tape_of self.old) (world_of self.old sheet.now (meaning_of memory.old))).after }
         ensures tape { tape_of self.new ≡ tape_of self.old }
     {
-        match self.next(sheet) {
-            Err(refusal) => {
-                self.phase = Phase::Refused;
-                Err(refusal)
-            }
-            Ok(item) => self.perform(item, memory, sheet),
-        }
+        let offset = self.reader.place;
+        self.handle(memory, sheet)
+            .map_err(|refusal| PlayFault { offset, refusal })
     }
 
     // Plays one record, and writes its lines at the front of the buffer; the rest of the buffer stays.
-    #[tactic(auto, using(byte_rows::proofs::Writing::over_none), unfolding(text::specs::Pieces::joined))]
+    #[tactic(auto, using(byte_rows::proofs::Writing::over_none, crate::proofs::Playing::over_chunk), unfolding(text::specs::Pieces::joined))]
     pub fn play(&mut self, memory: &mut Memory, sheet: &mut [u8], out: &mut [u8]) -> Played
         ensures outcome { result.outcome ≡ (play_of (length out.old) (tape_of self.old) (world_of self.old sheet.old (meaning_of memory.old))).outcome }
         ensures after { world_of self.new sheet.new (meaning_of memory.new) ≡ (play_of (length out.old) (tape_of self.old) (world_of self.old sheet.old (meaning_of memory.old))).after }
@@ -108,16 +95,13 @@ impl<'a> Player<'a> {
         ensures room { result.wrote ≤ 512 }
     {
         let offset = self.reader.place;
-        if out.len() < BUFFER_SIZE {
+        let Some(lines) = out.first_chunk_mut::<BUFFER_SIZE>() else {
             let refusal = Refusal::Buffer;
             let outcome = Err(PlayFault { offset, refusal });
             return Played { wrote: 0, outcome };
-        }
-        let outcome = match self.handle(memory, sheet) {
-            Ok(event) => Ok(event),
-            Err(refusal) => Err(PlayFault { offset, refusal }),
         };
-        let wrote = put_lines(out, outcome);
+        let outcome = self.handle_at_place(memory, sheet);
+        let wrote = put_lines(lines, outcome);
         Played { wrote, outcome }
     }
 }
