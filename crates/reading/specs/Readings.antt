@@ -1,8 +1,10 @@
 -- The readings that instructions are made of.
 use Rattle.std.specs.Prelude.{◌≡◌, ℕ, zero, suc, ◌+◌, ◌%◌, List, [], ◌∷◌, ◌++◌, Ok, Err, Option, Result}
 use Rattle.byte_rows.specs.Rows.{pair}
+use Rattle.bus.specs.Meaning.{Meaning}
 use Rattle.bus.specs.declared.refusal.BusRefusal.{BusRefusal}
 use Rattle.reading.specs.declared.fault.Fault.{Fault}
+use Rattle.reading.specs.declared.reads.BusReader.{BusReader}
 use Rattle.reading.specs.Sheets.{noted}
 use Rattle.reading.specs.Trees.{Tree, done, ask, came, asked}
 
@@ -29,6 +31,12 @@ row_tree n a = row_after [] n a
 pub record Reads {A : Type 0} (reads : ℕ → Result ℕ BusRefusal) (sheet : List ℕ) (t : Tree A) (before : Option ℕ) (r : Result A Fault) (after : Option ℕ) : Type 0 where
   pub result : r ≡ came reads t
   pub told : after ≡ noted sheet before (asked reads t)
+
+-- A reader that read the tree: r came of it, and nothing of the reader changes but what is told.
+pub record ReadsBy {B A : Type 0} (meaning : B → Meaning) (before : BusReader B) (t : Tree A) (r : Result A Fault) (after : BusReader B) : Type 0 where
+  pub read : Reads (meaning before.bus.now).reads before.sheet.now t before.told r after.told
+  pub bus : after.bus.now ≡ before.bus.now
+  pub sheet : after.sheet.now ≡ before.sheet.now
 
 -- A row that was filled, with the answer that it was filled.
 abbrev pub row_with : List ℕ → Result (Unit {0}) Fault → Result (List ℕ) Fault

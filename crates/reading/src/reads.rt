@@ -1,6 +1,6 @@
 // Reads one byte, a pair or a row.
 ghost use Rattle.std.specs.Prelude.{◌≡◌, length};
-ghost use Rattle.reading.specs.Readings.{Reads, byte_tree, pair_tree, row_tree, row_with, row_got};
+ghost use Rattle.reading.specs.Readings.{ReadsBy, byte_tree, pair_tree, row_tree, row_with, row_got};
 ghost use Rattle.reading.specs.Sheets.{stained};
 
 use crate::fault::Fault;
@@ -39,9 +39,7 @@ impl<'a, B: Bus> BusReader<'a, B> {
 
     // Reads one byte, and notes the address if it is the first that is stained.
     pub fn byte(&mut self, address: u16) -> Result<u8, Fault>
-        ensures read { Reads (B.Bus.meaning self.old.bus.now).reads self.old.sheet.now (byte_tree address) self.old.told result self.new.told }
-        ensures bus { self.new.bus.now ≡ self.old.bus.now }
-        ensures sheet { self.new.sheet.now ≡ self.old.sheet.now }
+        ensures { ReadsBy B.Bus.meaning self.old (byte_tree address) result self.new }
     {
         if self.told.is_none() && is_stained(self.sheet, address) {
             self.told = Some(address);
@@ -53,9 +51,7 @@ impl<'a, B: Bus> BusReader<'a, B> {
 
     // Reads a pair, low byte first. The address after 65,535 is 0.
     pub fn pair(&mut self, address: u16) -> Result<u16, Fault>
-        ensures read { Reads (B.Bus.meaning self.old.bus.now).reads self.old.sheet.now (pair_tree address) self.old.told result self.new.told }
-        ensures bus { self.new.bus.now ≡ self.old.bus.now }
-        ensures sheet { self.new.sheet.now ≡ self.old.sheet.now }
+        ensures { ReadsBy B.Bus.meaning self.old (pair_tree address) result self.new }
     {
         let low = self.byte(address)?;
         let high = self.byte(address.wrapping_add(1))?;
@@ -64,10 +60,8 @@ impl<'a, B: Bus> BusReader<'a, B> {
 
     // Fills the row with the bytes from the address on, upward.
     pub fn row(&mut self, address: u16, row: &mut [u8]) -> Result<(), Fault>
-        ensures read { Reads (B.Bus.meaning self.old.bus.now).reads self.old.sheet.now (row_tree (length row.old) address) self.old.told (row_with row.new result) self.new.told }
+        ensures read { ReadsBy B.Bus.meaning self.old (row_tree (length row.old) address) (row_with row.new result) self.new }
         ensures got { row.new ≡ row_got (B.Bus.meaning self.old.bus.now).reads address row.old }
-        ensures bus { self.new.bus.now ≡ self.old.bus.now }
-        ensures sheet { self.new.sheet.now ≡ self.old.sheet.now }
     {
         // The address goes on by hand: a range of addresses would end at 65,535, and a row of any length may wrap.
         let mut at = address;

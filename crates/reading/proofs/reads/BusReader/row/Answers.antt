@@ -4,14 +4,9 @@ use Rattle.reading.proofs.Filling.{filling_more, filling_stops}
 use Rattle.reading.proofs.reads.BusReader.row.Goals as goal
 
 pub loop-byte-preserved : goal.loop-byte-preserved
-loop-byte-preserved g c =
-    let v = c.loop-byte.invariant in
-    let read = rw (v.bus, v.sheet, c.in_ok-byte.was) at c.byte.ensures.read in
-    record { filling = filling_more _ _ _ _ _ _ _ _ _ _ (omega arith) v.filling _ read; bus = cc; sheet = cc }
+loop-byte-preserved g c = filling_more _ _ _ _ _ _ _ _ _ (omega arith) c.loop-byte.invariant _ (rw c.in_ok-byte.was at c.byte.ensures)
 
 pub returns-in_err-byte-clause-read : goal.returns-in_err-byte-clause-read
 returns-in_err-byte-clause-read g c =
-    let v = c.loop-byte.invariant in
-    let read = rw (v.bus, v.sheet, c.in_err-byte.was) at c.byte.ensures.read in
     let e = err_from_is_err_and c.from_residual.result c.from_residual.ensures.1 in
-    rw (e.1, e.2) (filling_stops _ _ _ _ _ _ _ _ _ _ (omega arith) v.filling _ read)
+    rw (e.1, e.2) (filling_stops _ _ _ _ _ _ _ _ _ (omega arith) c.loop-byte.invariant _ (rw c.in_err-byte.was at c.byte.ensures))
