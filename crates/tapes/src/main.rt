@@ -2,94 +2,59 @@
 #![tactic(auto)]
 
 use memory::Memory;
-use play::Player;
+use play::{Played, Player};
 use std::io::Write;
 use transcript::transcribe;
 
-struct Case {
-    name: &'static str,
-    tape: &'static [u8],
-}
+// What a tape shows, and the tape.
+type Case = (&'static str, &'static [u8]);
 
 const CASES: [Case; 18] = [
-    Case {
-        name: "an empty tape",
-        tape: b"",
-    },
-    Case {
-        name: "half a mark",
-        tape: b"L",
-    },
-    Case {
-        name: "an unknown mark",
-        tape: b"XY",
-    },
-    Case {
-        name: "an unknown mark after GO",
-        tape: b"GO\x00\x01\x00\x04XY",
-    },
-    Case {
-        name: "EN before GO",
-        tape: b"EN",
-    },
-    Case {
-        name: "EN after a load",
-        tape: b"LD\x00\x01\x01\xFFEN",
-    },
-    Case {
-        name: "a load after GO",
-        tape: b"GO\x00\x01\x00\x04LD\x00\x01\x01\xFF",
-    },
-    Case {
-        name: "a load after GO, and cut off: out of turn comes first",
-        tape: b"GO\x00\x01\x00\x04LD",
-    },
-    Case {
-        name: "a second GO",
-        tape: b"GO\x00\x01\x00\x04GO\x00\x01\x00\x04",
-    },
-    Case {
-        name: "a load without its count",
-        tape: b"LD\x00\x01",
-    },
-    Case {
-        name: "a load short of one byte",
-        tape: b"LD\x00\x01\x02\xFF",
-    },
-    Case {
-        name: "GO without its return pointer",
-        tape: b"GO\x00\x01\x00",
-    },
-    Case {
-        name: "no EN",
-        tape: b"GO\x00\x01\x00\x04",
-    },
-    Case {
-        name: "a load of no bytes",
-        tape: b"LD\x00\x01\x00",
-    },
-    Case {
-        name: "a load of the last byte of RAM, then one past it",
-        tape: b"LD\xFF\x7F\x01\xAALD\xFF\x7F\x02\xAA\xBB",
-    },
-    Case {
-        name: "a byte after EN",
-        tape: b"GO\x34\x12\x78\x56EN\x00",
-    },
-    Case {
-        name: "a record after EN",
-        tape: b"GO\x34\x12\x78\x56ENEN",
-    },
-    Case {
-        name: "an unknown mark after EN",
-        tape: b"GO\x34\x12\x78\x56ENXY",
-    },
+    ("an empty tape", b""),
+    ("half a mark", b"L"),
+    ("an unknown mark", b"XY"),
+    ("an unknown mark after GO", b"GO\x00\x01\x00\x04XY"),
+    ("EN before GO", b"EN"),
+    ("EN after a load", b"LD\x00\x01\x01\xFFEN"),
+    ("a load after GO", b"GO\x00\x01\x00\x04LD\x00\x01\x01\xFF"),
+    (
+        "a load after GO, and cut off: out of turn comes first",
+        b"GO\x00\x01\x00\x04LD",
+    ),
+    ("a second GO", b"GO\x00\x01\x00\x04GO\x00\x01\x00\x04"),
+    ("a load without its count", b"LD\x00\x01"),
+    ("a load short of one byte", b"LD\x00\x01\x02\xFF"),
+    ("GO without its return pointer", b"GO\x00\x01\x00"),
+    ("no EN", b"GO\x00\x01\x00\x04"),
+    ("a load of no bytes", b"LD\x00\x01\x00"),
+    (
+        "a load of the last byte of RAM, then one past it",
+        b"LD\xFF\x7F\x01\xAALD\xFF\x7F\x02\xAA\xBB",
+    ),
+    ("a byte after EN", b"GO\x34\x12\x78\x56EN\x00"),
+    ("a record after EN", b"GO\x34\x12\x78\x56ENEN"),
+    ("an unknown mark after EN", b"GO\x34\x12\x78\x56ENXY"),
 ];
 
-fn show(rt: &HostRuntime, case: &Case) -> anyhow::Result<()> {
-    let name = case.name;
+// What the sizes of a sheet and of a line buffer show, and the sizes.
+const SIZES: [(&str, usize, usize); 4] = [
+    (
+        "a buffer of 511 bytes, and a sheet of the wrong size: the buffer comes first",
+        0,
+        511,
+    ),
+    (
+        "a sheet of 8,191 bytes, and an unknown mark: the sheet comes first",
+        8191,
+        512,
+    ),
+    ("a sheet of 8,193 bytes", 8193, 512),
+    ("a sheet of 8,192 bytes, and an unknown mark", 8192, 512),
+];
+
+fn show(rt: &HostRuntime, (name, tape): Case) -> anyhow::Result<()> {
     println!(rt; "# {name}")?;
-    let text = transcribe(rt.alloc(), case.tape)?;
+    let text = transcribe(rt.alloc(), tape)?;
     rt.stdout().write_all(&text)?;
     Ok(())
 }
@@ -106,65 +71,41 @@ fn show_lent(
     let mut sheet = vec![in rt.alloc(); 0u8; sheet_size]?;
     let mut buffer = vec![in rt.alloc(); b'.'; buffer_size]?;
     let mut player = Player::new(b"XY");
-    let played = player.play(&mut memory, &mut sheet, &mut buffer);
-    let wrote = played.wrote;
-    let number = match played.outcome {
-        Ok(_) => 0,
-        Err(fault) => fault.refusal.number(),
-    };
-    println!(rt; "refused with {number}, {wrote} bytes written")?;
+    let Played { wrote, outcome } = player.play(&mut memory, &mut sheet, &mut buffer);
+    match outcome {
+        Ok(_) => println!(rt; "played, {wrote} bytes written")?,
+        Err(fault) => {
+            let number = fault.refusal.number();
+            println!(rt; "refused with {number}, {wrote} bytes written")?;
+        }
+    }
     let shown = buffer.len().min(wrote + 4);
-    rt.stdout().write_all(&buffer[0..shown])?;
+    rt.stdout().write_all(&buffer[..shown])?;
     println!(rt; "")?;
     Ok(())
 }
 
-fn play_one(
-    rt: &HostRuntime,
-    player: &mut Player,
-    memory: &mut Memory,
-    sheet: &mut [u8],
-) -> anyhow::Result<()> {
-    let mut buffer = [0u8; 512];
-    let wrote = player.play(memory, sheet, &mut buffer).wrote;
-    rt.stdout().write_all(&buffer[0..wrote])?;
-    Ok(())
-}
-
 // The same record played twice: after a refusal the place stays, and all but an unknown mark is out of turn.
-fn show_again(rt: &HostRuntime, case: &Case) -> anyhow::Result<()> {
-    let name = case.name;
+fn show_again(rt: &HostRuntime, (name, tape): Case) -> anyhow::Result<()> {
     println!(rt; "# {name}, played twice")?;
     let mut memory = Memory::new(rt.alloc())?;
     let mut sheet = vec![in rt.alloc(); 0u8; 8192]?;
-    let mut player = Player::new(case.tape);
-    play_one(rt, &mut player, &mut memory, &mut sheet)?;
-    play_one(rt, &mut player, &mut memory, &mut sheet)
+    let mut player = Player::new(tape);
+    for _ in 0..2 {
+        let mut buffer = [0u8; 512];
+        let wrote = player.play(&mut memory, &mut sheet, &mut buffer).wrote;
+        rt.stdout().write_all(&buffer[..wrote])?;
+    }
+    Ok(())
 }
 
 fn main(rt: HostRuntime) -> anyhow::Result<()> {
-    for case in &CASES {
+    for case in CASES {
         show(&rt, case)?;
     }
-    show_lent(
-        &rt,
-        "a buffer of 511 bytes, and a sheet of the wrong size: the buffer comes first",
-        0,
-        511,
-    )?;
-    show_lent(
-        &rt,
-        "a sheet of 8,191 bytes, and an unknown mark: the sheet comes first",
-        8191,
-        512,
-    )?;
-    show_lent(&rt, "a sheet of 8,193 bytes", 8193, 512)?;
-    show_lent(
-        &rt,
-        "a sheet of 8,192 bytes, and an unknown mark",
-        8192,
-        512,
-    )?;
-    show_again(&rt, &CASES[2])?;
-    show_again(&rt, &CASES[13])
+    for (name, sheet_size, buffer_size) in SIZES {
+        show_lent(&rt, name, sheet_size, buffer_size)?;
+    }
+    show_again(&rt, CASES[2])?;
+    show_again(&rt, CASES[13])
 }
