@@ -22,9 +22,3 @@ transcript_of tape = printed (length tape + 1) tape start
 -- That count is enough: were more records asked for, nothing more would be printed.
 abbrev pub EveryRecordIsPlayed : Type 0
 EveryRecordIsPlayed = (tape : List ℕ) (more : ℕ) → printed (length tape + 1 + more) tape start ≡ transcript_of tape
-
--- One record was played, and its lines were added to the text.
-pub record Added (tape : List ℕ) (w : World) (text : List ℕ) (tape' : List ℕ) (w' : World) (text' : List ℕ) : Type 0 where
-  pub same : tape' ≡ tape
-  pub after : w' ≡ (play_of 512 tape w).after
-  pub lines : text' ≡ text ++ lines_of (play_of 512 tape w).outcome

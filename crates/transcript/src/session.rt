@@ -1,0 +1,49 @@
+// A tape that is being played, with all that the player works on.
+ghost use Rattle.std.specs.Prelude.{◌≡◌, ◌++◌, [], IfOk, OnOk};
+ghost use Rattle.play.specs.Lines.{lines_of};
+ghost use Rattle.play.specs.Play.{play_of};
+ghost use Rattle.transcript.specs.Printed.{start};
+ghost use Rattle.transcript.specs.Sessions.{tape_in, world_in};
+
+use memory::Memory;
+use play::Player;
+use std::alloc::{AllocError, Global};
+
+#[derive(Drop)]
+pub(crate) struct Session<'a> {
+    pub player: Player<'a>,
+    memory: Memory,
+    sheet: [u8; 8192],
+    lines: [u8; 512],
+    // The lines of the records that were played.
+    pub text: Vec<u8>,
+}
+
+impl<'a> Session<'a> {
+    // A cold exchange with a zero sheet on zero memory, at the tape's first byte.
+    pub fn new(heap: Global, tape: &'a [u8]) -> Result<Session<'a>, AllocError>
+        ensures tape { IfOk result (λ s. tape_in s ≡ tape.now) }
+        ensures world { IfOk result (λ s. world_in s ≡ start) }
+        ensures text { IfOk result (λ s. s.text.items ≡ []) }
+    {
+        Ok(Session {
+            player: Player::new(tape),
+            memory: Memory::new(heap)?,
+            sheet: [0; 8192],
+            lines: [0; 512],
+            text: Vec::new(heap),
+        })
+    }
+
+    // Plays one record, and adds its lines to the text.
+    pub fn play_record(&mut self) -> Result<(), AllocError>
+        ensures tape { tape_in self.new ≡ tape_in self.old }
+        ensures world { world_in self.new ≡ (play_of 512 (tape_in self.old) (world_in self.old)).after }
+        ensures text { OnOk result (self.new.text.items ≡ self.old.text.items ++ lines_of (play_of 512 (tape_in self.old) (world_in self.old)).outcome) }
+    {
+        let played = self
+            .player
+            .play(&mut self.memory, &mut self.sheet, &mut self.lines);
+        self.text.extend_from_slice(&self.lines[..played.wrote])
+    }
+}
