@@ -1,12 +1,13 @@
 -- Two states that differ in no part are equal.
 use Rattle.std.proofs.Common.{◌≡◌, ℕ, ◌+◌, Bool, true, cond, eqb, List, [], ◌∷◌, Some, None, Option, refl, arith}
 use Rattle.std.specs.Cmp.{booleans_Decides}
+use Rattle.std.specs.Option.{option_or}
 use Rattle.std.proofs.lemmas.Bool.{and_parts, eqb-true}
 use Rattle.std.proofs.lemmas.Bool.Decides.{nat_tests}
 use Rattle.registers.specs.declared.mar.Mar.{Mar}
 use Rattle.registers.specs.declared.mar.Mar.TheVariants.{Arp, Drp, Status as StatusMar, E}
 use Rattle.registers.specs.declared.status.Status.{Status}
-use Rattle.registers.specs.Differences.{same_status, register_mar, other_mar, or_else, mar_of}
+use Rattle.registers.specs.Differences.{same_status, register_mar, other_mar, mar_of}
 use Rattle.registers.specs.State.{State}
 
 same_list : (k : ℕ) (xs ys : List ℕ) → register_mar k xs ys ≡ None → xs ≡ ys
@@ -26,7 +27,7 @@ same_others s t h e =
     let p = no_other (eqb s.arp t.arp) (eqb s.drp t.drp) (same_status s.status t.status) (eqb s.e t.e) h in
     grind (arith, eqb-true s.arp t.arp p.0, eqb-true s.drp t.drp p.1, status_same s.status t.status p.2, eqb-true s.e t.e p.3)
 
-neither : (o p : Option Mar) → or_else o p ≡ None → (o ≡ None) × (p ≡ None)
+neither : (o p : Option Mar) → option_or o p ≡ None → (o ≡ None) × (p ≡ None)
 neither None p h = (refl, h)
 neither (Some m) p h = cc
 

@@ -1,6 +1,7 @@
 -- The first part in which two states differ: registers, then ARP, DRP, status, E.
 use Rattle.std.specs.Prelude.{ℕ, ◌+◌, Bool, cond, ◌&&◌, List, [], ◌∷◌, Some, None, Option, ◌==◌}
 use Rattle.std.specs.Bool.{beq}
+use Rattle.std.specs.Option.{option_or}
 use Rattle.registers.specs.declared.mar.Mar.{Mar}
 use Rattle.registers.specs.declared.mar.Mar.TheVariants.{Register, Arp, Drp, Status as StatusMar, E}
 use Rattle.registers.specs.declared.status.Status.{Status}
@@ -27,9 +28,5 @@ other_mar s t =
     (Some Drp))
     (Some Arp)
 
-abbrev pub or_else : Option Mar → Option Mar → Option Mar
-or_else None o = o
-or_else (Some m) o = Some m
-
 abbrev pub mar_of : State → State → Option Mar
-mar_of s t = or_else (register_mar 0 s.registers t.registers) (other_mar s t)
+mar_of s t = option_or (register_mar 0 s.registers t.registers) (other_mar s t)
