@@ -9,7 +9,7 @@ use crate::refusal::BusRefusal;
 use crate::trunk::Trunk;
 
 // Trunk i is at the address base + i.
-#[derive(Drop)]
+#[derive(Clone, PartialEq, Eq, Debug, Drop)]
 pub struct LineBoard {
     base: u16,
     trunks: [Trunk; 16],

@@ -11,7 +11,7 @@ use crate::refusal::BusRefusal;
 use byte_rows::{PastEnd, overwrite};
 
 // Byte i is at the address base + i.
-#[derive(Drop)]
+#[derive(PartialEq, Eq, Debug, Drop)]
 pub struct Ram {
     pub base: u16,
     pub bytes: Vec<u8>,

@@ -8,7 +8,7 @@ use crate::place::place;
 use crate::refusal::{BusRefusal, Cause};
 
 // Byte i is at the address base + i.
-#[derive(Drop)]
+#[derive(Clone, PartialEq, Eq, Debug, Drop)]
 pub struct Rom<'a> {
     pub base: u16,
     pub bytes: &'a [u8],
