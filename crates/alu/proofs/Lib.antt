@@ -1,5 +1,3 @@
 pub mod Shifting
-pub mod Joining
-pub mod Seeing
 pub mod Overflow
 pub mod Signs

@@ -1,20 +1,29 @@
--- Signs, rows and overflow together.
-use Rattle.std.proofs.Common.{◌≡◌, ℕ, zero, suc, ◌+◌, ◌*◌, ◌^◌, ◌<◌, ◌≤◌, Bool, false, cond, not, leb, List, [], ◌∷◌, length, pos, ◌+ℤ◌, ◌-ℤ◌, sym, refl, ap, ◌∙◌, subst, arith}
-use Rattle.std.proofs.lemmas.Bool.{lt-leb, lt-ltb}
+-- Whether a chain overflows, by the signs of its numbers.
+use Rattle.std.proofs.Common.{◌≡◌, ℕ, zero, suc, ◌+◌, ◌-◌, ◌*◌, ◌%◌, ◌^◌, ◌<◌, ◌≤◌, Bool, true, false, ◌&&◌, leb, ltb, ◌⊎◌, List, [], ◌∷◌, length, get_or, drop, pos, sym, refl, ap, ◌∙◌, inl, inr, pow-suc, sub-one, mul-zero, mul-one, arith}
+use Rattle.std.proofs.lemmas.Bool.{lt-ltb}
+use Rattle.std.proofs.lemmas.Bool.Decides.{nat_tests}
+use Rattle.std.proofs.lemmas.Grind.{get_or_after_one}
 use Rattle.counting.specs.declared.Link.{Link}
 use Rattle.counting.specs.declared.Link.TheVariants.{Add, Subtract, Negate, Complement}
 use Rattle.counting.specs.Binary.{binary}
 use Rattle.counting.specs.Chain.{linked, first, others, row_of, carry_of}
 use Rattle.counting.specs.System.{System, bit, number, Lawful}
 use Rattle.counting.proofs.Binaries.{binary_laws}
-use Rattle.counting.proofs.Numbers.{sum, difference, negation, row_lawful, row_length, first_lawful, others_lawful, number_below}
-use Rattle.alu.specs.Seen.{last_of, sized}
-use Rattle.alu.specs.Signed.{worth, within, signed}
-use Rattle.alu.specs.Sums.{overflow_of, signs_of, turned}
-use Rattle.alu.proofs.Overflow.{sum_overflow, difference_overflow, top_half, even_power}
-use Rattle.alu.proofs.Seeing.{sized_length, sized_same}
+use Rattle.counting.proofs.Numbers.{balance, row_lawful, row_length, row_below, first_lawful, others_lawful, number_below}
+use Rattle.alu.specs.Seen.{sized, negative}
+use Rattle.alu.specs.Sums.{overflow_of, signs_of}
+use Rattle.alu.proofs.Overflow.{sum_tells, difference_tells, negation_tells}
 
-pub sized_lawful : (n : ℕ) (ys : List ℕ) → Lawful binary ys → Lawful binary (sized n ys)
+sized_length : (n : ℕ) (ys : List ℕ) → length (sized n ys) ≡ n
+sized_length zero ys = refl
+sized_length (suc n) ys = ap suc (sized_length n (others ys))
+
+sized_at : (n : ℕ) (ys : List ℕ) (i : ℕ) → i < n → get_or (sized n ys) i 0 ≡ get_or ys i 0
+sized_at zero ys i h = absurd (omega arith)
+sized_at (suc n) ys zero h = refl
+sized_at (suc n) ys (suc i) h = sized_at n (others ys) i (omega arith) ∙ get_or_after_one ys i 0 ∙ ap (λ k. get_or ys k 0) (omega arith)
+
+sized_lawful : (n : ℕ) (ys : List ℕ) → Lawful binary ys → Lawful binary (sized n ys)
 sized_lawful zero ys h = tt
 sized_lawful (suc n) ys h = (first_lawful binary binary_laws ys h, sized_lawful n (others ys) (others_lawful binary binary_laws ys h))
 
@@ -23,15 +32,33 @@ row_sized : (s : System) (l : Link) (xs ys : List ℕ) (c : Bool) → row_of s l
 row_sized s l [] ys c = refl
 row_sized s l (x ∷ xs) ys c = ap (λ t. (linked s l x (first ys) c).0 ∷ t) (row_sized s l xs (others ys) (linked s l x (first ys) c).1)
 
-module _ (x : ℕ) (tail ys : List ℕ) (hx : Lawful binary (x ∷ tail)) (hy : Lawful binary ys) where
-  abbrev xs : List ℕ
-  xs = x ∷ tail
+-- the top bit tells in which half of its numbers a row's number stands
+top : (x : ℕ) (xs : List ℕ) → Lawful binary (x ∷ xs) → leb 128 (get_or (x ∷ xs) (length xs) 0) ≡ leb (256 ^ length xs * 256) (2 * number binary (x ∷ xs))
+top x [] (here, rest) = grind (arith, nat_tests)
+top x (y ∷ ys) (here, rest) = top y ys rest ∙ rw pow-suc (grind (arith, nat_tests))
+
+negative_half : (xs : List ℕ) → Lawful binary xs → negative (length xs) xs ≡ leb (256 ^ length xs) (2 * number binary xs)
+negative_half [] h = refl
+negative_half (x ∷ xs) h = rw (lt-ltb 0 (length (x ∷ xs)) (omega arith), sub-one, pow-suc) (top x xs h)
+
+negative_sized : (n : ℕ) (ys : List ℕ) → negative n ys ≡ negative n (sized n ys)
+negative_sized zero ys = refl
+negative_sized (suc n) ys = ap (λ b. ltb 0 (suc n) && leb 128 b) (sym (sized_at (suc n) ys (suc n - 1) (omega arith)))
+
+halves : (n : ℕ) → (256 ^ n ≡ 1) ⊎ (256 ^ n % 2 ≡ 0)
+halves zero = inl refl
+halves (suc n) = inr (rw pow-suc (omega arith))
+
+carry_is : (p : ℕ) (c : Bool) → (p * bit c ≡ 0) ⊎ (p * bit c ≡ p)
+carry_is p true = inr (mul-one p)
+carry_is p false = inl (mul-zero p)
+
+module _ (xs ys : List ℕ) (hx : Lawful binary xs) (hy : Lawful binary ys) where
+  abbrev p : ℕ
+  p = 256 ^ length xs
 
   abbrev zs : List ℕ
   zs = sized (length xs) ys
-
-  abbrev p : ℕ
-  p = 256 ^ length xs
 
   hz : Lawful binary zs
   hz = sized_lawful (length xs) ys hy
@@ -39,78 +66,31 @@ module _ (x : ℕ) (tail ys : List ℕ) (hx : Lawful binary (x ∷ tail)) (hy : 
   short : length zs ≤ length xs
   short = omega (arith, sized_length (length xs) ys)
 
-  below : number binary zs < p
-  below = subst (λ n. number binary zs < 256 ^ n) (sized_length (length xs) ys) (number_below binary binary_laws zs hz)
-
-  -- the row out, its operand taken at the data's length
   abbrev out : Link → List ℕ
   out o = row_of binary o xs zs false
 
-  out_below : (o : Link) → number binary (out o) < p
-  out_below o = subst (λ n. number binary (out o) < 256 ^ n) (row_length binary binary_laws o xs zs false) (number_below binary binary_laws (out o) (row_lawful binary binary_laws o xs zs false hx hz))
+  abbrev carry : Link → ℕ
+  carry o = p * bit (carry_of binary o xs zs false)
 
-  top_x : leb 128 (last_of xs) ≡ leb p (2 * number binary xs)
-  top_x = top_half xs hx
+  below_x : number binary xs < p
+  below_x = number_below binary binary_laws xs hx
 
-  top_z : leb 128 (last_of zs) ≡ leb p (2 * number binary zs)
-  top_z = top_half zs hz ∙ ap (λ n. leb (256 ^ n) (2 * number binary zs)) (sized_length (length xs) ys)
+  below_z : number binary zs < p
+  below_z = rw sized_length at (number_below binary binary_laws zs hz)
 
-  top_out : (o : Link) → leb 128 (last_of (out o)) ≡ leb p (2 * number binary (out o))
-  top_out o = top_half (out o) (row_lawful binary binary_laws o xs zs false hx hz) ∙ ap (λ n. leb (256 ^ n) (2 * number binary (out o))) (row_length binary binary_laws o xs zs false)
+  below_out : (o : Link) → number binary (out o) < p
+  below_out = row_below binary binary_laws xs zs false hx hz short
 
-  signed_z : signed zs ≡ worth p (number binary zs)
-  signed_z = ap (λ n. worth (256 ^ n) (number binary zs)) (sized_length (length xs) ys)
-
-  sum_is : number binary (out Add) + p * bit (carry_of binary Add xs zs false) ≡ number binary xs + number binary zs
-  sum_is = omega (arith, sum binary binary_laws xs zs false hx hz short)
-
-  difference_is : number binary (out Subtract) + number binary zs ≡ number binary xs + p * bit (carry_of binary Subtract xs zs false)
-  difference_is = omega (arith, difference binary binary_laws xs zs false hx hz short)
-
-  negation_is : number binary (out Negate) + number binary xs ≡ 0 + p * bit (carry_of binary Negate xs zs false)
-  negation_is = omega (arith, negation binary binary_laws xs zs false hx)
-
-  some : 0 < p
-  some = omega (arith, below)
-
-  zero_low : false ≡ leb p (2 * 0)
-  zero_low = sym (lt-leb p 0 some)
-
-  zero_worth : worth p 0 ≡ pos 0
-  zero_worth = ap (λ b. cond b (pos 0) (pos 0 -ℤ pos p)) (lt-ltb 0 p some)
-
-  half : ℕ
-  half = 256 ^ length tail * 128
-
-  tells : (o : Link) → signs_of o (leb 128 (last_of xs)) (leb 128 (last_of zs)) (leb 128 (last_of (out o))) ≡ overflow_of o xs ys
-  unfolding half
-  tells Add =
-      (λ i. turned (top_x i) (top_z i) (top_out Add i))
-      ∙ sum_overflow p half (number binary xs) (number binary zs) (number binary (out Add)) (even_power (length tail)) (number_below binary binary_laws xs hx) below (out_below Add) (carry_of binary Add xs zs false) sum_is
-      ∙ ap (λ z. not (within p (signed xs +ℤ z))) (sym signed_z)
-  tells Subtract =
-      (λ i. turned (top_x i) (not (top_z i)) (top_out Subtract i))
-      ∙ difference_overflow p half (number binary xs) (number binary zs) (number binary (out Subtract)) (even_power (length tail)) (number_below binary binary_laws xs hx) below (out_below Subtract) (carry_of binary Subtract xs zs false) difference_is
-      ∙ ap (λ z. not (within p (signed xs -ℤ z))) (sym signed_z)
-  tells Negate =
-      (λ i. turned (zero_low i) (not (top_x i)) (top_out Negate i))
-      ∙ difference_overflow p half 0 (number binary xs) (number binary (out Negate)) (even_power (length tail)) some (number_below binary binary_laws xs hx) (out_below Negate) (carry_of binary Negate xs zs false) negation_is
-      ∙ ap (λ z. not (within p (z -ℤ signed xs))) zero_worth
+  tells : (o : Link) → signs_of o (leb p (2 * number binary xs)) (leb p (2 * number binary zs)) (leb p (2 * number binary (out o))) ≡ overflow_of o xs ys
+  tells Add = rw sized_length (sum_tells p _ _ _ (carry Add) (halves (length xs)) (carry_is p _) below_x below_z (below_out Add) (omega (arith, balance binary binary_laws Add xs zs false hx hz short)))
+  tells Subtract = rw sized_length (difference_tells p _ _ _ (carry Subtract) (halves (length xs)) (carry_is p _) below_x below_z (below_out Subtract) (omega (arith, balance binary binary_laws Subtract xs zs false hx hz short)))
+  tells Negate = negation_tells p _ _ (carry Negate) (halves (length xs)) (carry_is p _) below_x (below_out Negate) (omega (arith, balance binary binary_laws Negate xs zs false hx hz short))
   tells Complement = refl
 
-tells_none : (o : Link) (ys : List ℕ) → signs_of o false false false ≡ overflow_of o [] ys
-tells_none Add ys = refl
-tells_none Subtract ys = refl
-tells_none Negate ys = refl
-tells_none Complement ys = refl
-
--- what the three signs say is whether the signed result does not fit
-pub signs_tell : (o : Link) (xs ys rs : List ℕ) → Lawful binary xs → Lawful binary ys → rs ≡ row_of binary o xs ys false → signs_of o (leb 128 (last_of (sized (length xs) xs))) (leb 128 (last_of (sized (length xs) ys))) (leb 128 (last_of (sized (length xs) rs))) ≡ overflow_of o xs ys
-signs_tell o [] ys rs hx hy e = tells_none o ys
-signs_tell o (x ∷ tail) ys rs hx hy e =
-    let n = length (x ∷ tail) in
-    let zs = sized n ys in
-    let out = row_of binary o (x ∷ tail) zs false in
-    let row : rs ≡ out = e ∙ row_sized binary o (x ∷ tail) ys false in
-    let same : sized n rs ≡ out = (λ i. sized (sym (row_length binary binary_laws o (x ∷ tail) zs false) i) (row i)) ∙ sized_same out in
-    (λ i. signs_of o (leb 128 (last_of (sized_same (x ∷ tail) i))) (leb 128 (last_of zs)) (leb 128 (last_of (same i)))) ∙ tells x tail ys hx hy o
+  -- what the three signs say is whether the signed result does not fit
+  pub signs_tell : (o : Link) (rs : List ℕ) → rs ≡ row_of binary o xs ys false → signs_of o (negative (length xs) xs) (negative (length xs) ys) (negative (length xs) rs) ≡ overflow_of o xs ys
+  signs_tell o rs e =
+      let of_x = negative_half xs hx in
+      let of_z = negative_sized (length xs) ys ∙ (rw sized_length at (negative_half zs hz)) in
+      let of_out = ap (negative (length xs)) (e ∙ row_sized binary o xs ys false) ∙ (rw (row_length binary binary_laws) at (negative_half (out o) (row_lawful binary binary_laws o xs zs false hx hz))) in
+      (λ i. signs_of o (of_x i) (of_z i) (of_out i)) ∙ tells o

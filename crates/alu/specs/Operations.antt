@@ -1,6 +1,5 @@
 -- What each operation leaves of a row: the row, the status and E; or the index of a byte that is not decimal.
-use Rattle.std.specs.Prelude.{ℕ, ◌+◌, ◌%◌, Bool, true, false, cond, not, List, [], ◌∷◌, Ok, Err, Result, ◌==◌, nat_le}
-use Rattle.registers.specs.declared.status.Status.{Status}
+use Rattle.std.specs.Prelude.{ℕ, ◌+◌, ◌%◌, Bool, true, false, cond, not, List, [], ◌∷◌, Option, Some, None, Ok, Err, Result, ◌==◌, nat_le}
 use Rattle.registers.specs.Bits.{bit_of}
 use Rattle.counting.specs.declared.Link.{Link}
 use Rattle.counting.specs.declared.Link.TheVariants as link
@@ -11,7 +10,8 @@ use Rattle.alu.specs.declared.shift.Unit.TheVariants.{Bit, Digit}
 use Rattle.alu.specs.declared.logic.Logic.TheVariants as logic
 use Rattle.alu.specs.declared.operations.Operation.{Operation}
 use Rattle.alu.specs.declared.operations.Operation.TheVariants.{ExtendedLeft, ExtendedRight, LogicalLeft, LogicalRight, Increment, Decrement, Negate, Complement, Test, Clear, Or, ExclusiveOr, And, Load, Compare, Add, Subtract}
-use Rattle.alu.specs.declared.operations.Worked.{Worked}
+use Rattle.alu.specs.declared.operations.Flags.{Flags}
+use Rattle.alu.specs.declared.operations.NotDecimal.{NotDecimal}
 use Rattle.alu.specs.Logic.{joined_row}
 use Rattle.alu.specs.Seen.{last_of, seen}
 use Rattle.alu.specs.Shifts.{radix_of, left_row, left_out, right_row, right_out}
@@ -19,118 +19,130 @@ use Rattle.alu.specs.Sums.{system_of, overflow_of}
 
 pub record Done : Type 0 where
   pub row : List ℕ
-  pub status : Status
-  pub e : ℕ
+  pub flags : Flags
 
-abbrev pub done : List ℕ → Worked → Done
-done row w = record { row = row; status = w.status; e = w.e }
+abbrev pub done : List ℕ → Flags → Done
+done row f = record { row = row; flags = f }
+
+-- What is seen of a row, with this carry and overflow; E stays.
+abbrev pub shown : Flags → Bool → Bool → List ℕ → Done
+shown f cy ovf row = record { row = row; flags = record f { status = seen f.status cy ovf row } }
 
 -- Neither carry nor overflow: loads, tests, logic, clear and complement.
-abbrev pub plain : Status → ℕ → List ℕ → Done
-plain s e row = record { row = row; status = seen s false false row; e = e }
+abbrev pub plain : Flags → List ℕ → Done
+plain f row = shown f false false row
 
 -- In decimal nothing overflows.
 abbrev pub overflow_in : Bool → Link → List ℕ → List ℕ → Bool
 overflow_in d l xs ys = cond d false (overflow_of l xs ys)
 
 -- A sum: CY is the carry out.
-abbrev pub summed : Status → ℕ → List ℕ → List ℕ → Done
-summed s e xs ys = record {
-  row = row_of (system_of s.dcm) link.Add xs ys false;
-  status = seen s (carry_of (system_of s.dcm) link.Add xs ys false) (overflow_in s.dcm link.Add xs ys) (row_of (system_of s.dcm) link.Add xs ys false);
-  e = e;
-}
+abbrev pub summed : Flags → List ℕ → List ℕ → Done
+summed f xs ys = shown f (carry_of (system_of f.status.dcm) link.Add xs ys false) (overflow_in f.status.dcm link.Add xs ys) (row_of (system_of f.status.dcm) link.Add xs ys false)
 
 -- A difference: CY is 1 where there was no borrow.
-abbrev pub lessened : Link → Status → ℕ → List ℕ → List ℕ → Done
-lessened l s e xs ys = record {
-  row = row_of (system_of s.dcm) l xs ys false;
-  status = seen s (not (carry_of (system_of s.dcm) l xs ys false)) (overflow_in s.dcm l xs ys) (row_of (system_of s.dcm) l xs ys false);
-  e = e;
-}
+abbrev pub lessened : Link → Flags → List ℕ → List ℕ → Done
+lessened l f xs ys = shown f (not (carry_of (system_of f.status.dcm) l xs ys false)) (overflow_in f.status.dcm l xs ys) (row_of (system_of f.status.dcm) l xs ys false)
 
 -- A shift moves by one digit in decimal mode and by one bit in binary.
 abbrev pub unit_of : Bool → By
 unit_of true = Digit
 unit_of false = Bit
 
-abbrev pub radix_in : Status → ℕ
-radix_in s = radix_of (unit_of s.dcm)
+abbrev pub radix_in : Flags → ℕ
+radix_in f = radix_of (unit_of f.status.dcm)
 
 -- A logical shift puts 0 in; an extended one puts in E in decimal mode and CY in binary.
-abbrev pub incoming_of : Bool → Status → ℕ → ℕ
-incoming_of false s e = 0
-incoming_of true s e = cond s.dcm e (bit_of s.cy)
+abbrev pub incoming_of : Bool → Flags → ℕ
+incoming_of false f = 0
+incoming_of true f = cond f.status.dcm f.e (bit_of f.status.cy)
 
 abbrev pub different : Bool → Bool → Bool
 different true b = not b
 different false b = b
 
 -- A lost digit goes to E and clears CY and OVF; a lost bit goes to CY.
-abbrev pub shifted_out : Status → ℕ → List ℕ → ℕ → Bool → Done
-shifted_out s e row out ovf = record {
+abbrev pub shifted_out : Flags → List ℕ → ℕ → Bool → Done
+shifted_out f row out ovf = record {
   row = row;
-  status = seen s (cond s.dcm false (out == 1)) (cond s.dcm false ovf) row;
-  e = cond s.dcm out e;
+  flags = record {
+    status = seen f.status (cond f.status.dcm false (out == 1)) (cond f.status.dcm false ovf) row;
+    e = cond f.status.dcm out f.e;
+  };
 }
 
 -- In binary a left shift overflows if the sign changed; a right shift never does.
-abbrev pub left_by : Status → ℕ → List ℕ → ℕ → Done
-left_by s e xs c = shifted_out s e (left_row (radix_in s) xs c) (left_out (radix_in s) xs c) (different (nat_le 128 (last_of xs)) (nat_le 128 (last_of (left_row (radix_in s) xs c))))
+abbrev pub left_by : Flags → List ℕ → ℕ → Done
+left_by f xs c = shifted_out f (left_row (radix_in f) xs c) (left_out (radix_in f) xs c) (different (nat_le 128 (last_of xs)) (nat_le 128 (last_of (left_row (radix_in f) xs c))))
 
-abbrev pub left_done : Bool → Status → ℕ → List ℕ → Done
-left_done x s e xs = left_by s e xs (incoming_of x s e % radix_in s)
+abbrev pub left_done : Bool → Flags → List ℕ → Done
+left_done x f xs = left_by f xs (incoming_of x f % radix_in f)
 
-abbrev pub right_by : Status → ℕ → List ℕ → ℕ → Done
-right_by s e xs c = shifted_out s e (right_row (radix_in s) xs c) (right_out (radix_in s) xs c) false
+abbrev pub right_by : Flags → List ℕ → ℕ → Done
+right_by f xs c = shifted_out f (right_row (radix_in f) xs c) (right_out (radix_in f) xs c) false
 
-abbrev pub right_done : Bool → Status → ℕ → List ℕ → Done
-right_done x s e xs = right_by s e xs (incoming_of x s e % radix_in s)
+abbrev pub right_done : Bool → Flags → List ℕ → Done
+right_done x f xs = right_by f xs (incoming_of x f % radix_in f)
 
 -- The index of a byte that is not decimal: 0 to 7 in the data, 8 to 15 in the operand. A row has at most eight bytes.
-abbrev pub index_from : ℕ → Result (Unit {0}) ℕ → Result (Unit {0}) ℕ
-index_from from (Ok u) = Ok tt
-index_from from (Err i) = Err (from + i % 8)
+abbrev pub index_from : ℕ → Option ℕ → Result (Unit {0}) NotDecimal
+index_from from None = Ok tt
+index_from from (Some i) = Err (record { index = from + i % 8 })
 
 -- Digits are checked in decimal mode only.
-abbrev pub digits_of : Bool → ℕ → List ℕ → Result (Unit {0}) ℕ
+abbrev pub digits_of : Bool → ℕ → List ℕ → Result (Unit {0}) NotDecimal
 digits_of false from row = Ok tt
-digits_of true from row = index_from from (first_refused decimal 0 row)
+digits_of true from row = index_from from (first_refused decimal row)
 
-abbrev pub after : {X : Type 0} → Result (Unit {0}) ℕ → Result X ℕ → Result X ℕ
+abbrev pub after : {X : Type 0} → Result (Unit {0}) NotDecimal → Result X NotDecimal → Result X NotDecimal
 after (Ok u) r = r
-after (Err i) r = Err i
+after (Err n) r = Err n
 
 -- Data before operand.
-abbrev pub both_digits : Bool → List ℕ → List ℕ → Result (Unit {0}) ℕ
+abbrev pub both_digits : Bool → List ℕ → List ℕ → Result (Unit {0}) NotDecimal
 both_digits d xs ys = after (digits_of d 0 xs) (digits_of d 8 ys)
 
--- EL, ER, LL, LR, IC, DC, TC, NC, TS, CL, OR, XR, AN, LD, CM, AD, SB, in this order. IC, DC, TC, NC, CM, AD and SB check digits.
-abbrev pub operated : Operation → Status → ℕ → List ℕ → List ℕ → Result Done ℕ
-operated ExtendedLeft s e xs ys = Ok (left_done true s e xs)
-operated ExtendedRight s e xs ys = Ok (right_done true s e xs)
-operated LogicalLeft s e xs ys = Ok (left_done false s e xs)
-operated LogicalRight s e xs ys = Ok (right_done false s e xs)
-operated Increment s e xs ys = after (digits_of s.dcm 0 xs) (Ok (summed s e xs (1 ∷ [])))
-operated Decrement s e xs ys = after (digits_of s.dcm 0 xs) (Ok (lessened link.Subtract s e xs (1 ∷ [])))
-operated Negate s e xs ys = after (digits_of s.dcm 0 xs) (Ok (lessened link.Negate s e xs []))
-operated Complement s e xs ys = after (digits_of s.dcm 0 xs) (Ok (plain s e (row_of (system_of s.dcm) link.Complement xs [] false)))
-operated Test s e xs ys = Ok (plain s e xs)
-operated Clear s e xs ys = Ok (plain s e (joined_row logic.Replace xs []))
-operated Or s e xs ys = Ok (plain s e (joined_row logic.Or xs ys))
-operated ExclusiveOr s e xs ys = Ok (plain s e (joined_row logic.ExclusiveOr xs ys))
-operated And s e xs ys = Ok (plain s e (joined_row logic.And xs ys))
-operated Load s e xs ys = Ok (plain s e (joined_row logic.Replace xs ys))
-operated Compare s e xs ys = after (both_digits s.dcm xs ys) (Ok (lessened link.Subtract s e xs ys))
-operated Add s e xs ys = after (both_digits s.dcm xs ys) (Ok (summed s e xs ys))
-operated Subtract s e xs ys = after (both_digits s.dcm xs ys) (Ok (lessened link.Subtract s e xs ys))
+-- IC, DC, TC and NC check the data's digits; CM, AD and SB check the operand's too.
+abbrev pub checked : Operation → Bool → List ℕ → List ℕ → Result (Unit {0}) NotDecimal
+checked Increment d xs ys = digits_of d 0 xs
+checked Decrement d xs ys = digits_of d 0 xs
+checked Negate d xs ys = digits_of d 0 xs
+checked Complement d xs ys = digits_of d 0 xs
+checked Compare d xs ys = both_digits d xs ys
+checked Add d xs ys = both_digits d xs ys
+checked Subtract d xs ys = both_digits d xs ys
+checked _ d xs ys = Ok tt
+
+-- EL, ER, LL, LR, IC, DC, TC, NC, TS, CL, OR, XR, AN, LD, CM, AD, SB, in this order.
+abbrev pub worked : Operation → Flags → List ℕ → List ℕ → Done
+worked ExtendedLeft f xs ys = left_done true f xs
+worked ExtendedRight f xs ys = right_done true f xs
+worked LogicalLeft f xs ys = left_done false f xs
+worked LogicalRight f xs ys = right_done false f xs
+worked Increment f xs ys = summed f xs (1 ∷ [])
+worked Decrement f xs ys = lessened link.Subtract f xs (1 ∷ [])
+worked Negate f xs ys = lessened link.Negate f xs []
+worked Complement f xs ys = plain f (row_of (system_of f.status.dcm) link.Complement xs [] false)
+worked Test f xs ys = plain f xs
+worked Clear f xs ys = plain f (joined_row logic.Replace xs [])
+worked Or f xs ys = plain f (joined_row logic.Or xs ys)
+worked ExclusiveOr f xs ys = plain f (joined_row logic.ExclusiveOr xs ys)
+worked And f xs ys = plain f (joined_row logic.And xs ys)
+worked Load f xs ys = plain f (joined_row logic.Replace xs ys)
+worked Compare f xs ys = lessened link.Subtract f xs ys
+worked Add f xs ys = summed f xs ys
+worked Subtract f xs ys = lessened link.Subtract f xs ys
+
+-- An operation is refused for its digits, or works.
+abbrev pub operated : Operation → Flags → List ℕ → List ℕ → Result Done NotDecimal
+operated o f xs ys = after (checked o f.status.dcm xs ys) (Ok (worked o f xs ys))
 
 -- A row with what was told of it.
-abbrev pub left : List ℕ → Result Worked ℕ → Result Done ℕ
-left row (Ok w) = Ok (done row w)
-left row (Err i) = Err i
+abbrev pub left : List ℕ → Result Flags NotDecimal → Result Done NotDecimal
+left row (Ok f) = Ok (done row f)
+left row (Err n) = Err n
 
 -- A refused operation leaves the row as it was.
-abbrev pub row_after : List ℕ → Result Done ℕ → List ℕ
+abbrev pub row_after : List ℕ → Result Done NotDecimal → List ℕ
 row_after xs (Ok d) = d.row
-row_after xs (Err i) = xs
+row_after xs (Err n) = xs

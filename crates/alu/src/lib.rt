@@ -10,7 +10,7 @@ mod sums;
 
 pub use examples::worked_examples;
 pub use logic::{Logic, join};
-pub use operations::{Operation, Worked, operate};
+pub use operations::{Flags, NotDecimal, Operation, operate};
 pub use shift::{Unit, shift_left, shift_right};
 pub use status::see;
 pub use sums::{Carried, combine};

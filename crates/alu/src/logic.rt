@@ -4,7 +4,7 @@ ghost use Rattle.alu.specs.Logic.{joint, joined_row};
 
 use counting::byte_at;
 
-#[derive(Clone, Copy)]
+#[derive(Clone, Copy, PartialEq, Eq, Debug)]
 pub enum Logic {
     Or,
     ExclusiveOr,

@@ -5,20 +5,20 @@ ghost use Rattle.counting.specs.System.{number};
 ghost use Rattle.alu.specs.Shifts.{radix_of, left_row, left_out, right_row, right_out};
 
 // What a shift moves by.
-#[derive(Clone, Copy)]
+#[derive(Clone, Copy, PartialEq, Eq, Debug)]
 pub enum Unit {
     Bit,
     Digit,
 }
 
-fn radix(unit: Unit) -> u16
-    ensures value { result ≡ radix_of unit }
-    ensures some { 1 < result }
-    ensures small { result < 17 }
-{
-    match unit {
-        Unit::Bit => 2,
-        Unit::Digit => 16,
+impl Unit {
+    fn radix(self) -> u16
+        ensures { result ≡ radix_of self }
+    {
+        match self {
+            Unit::Bit => 2,
+            Unit::Digit => 16,
+        }
     }
 }
 
@@ -29,9 +29,9 @@ pub fn shift_left(unit: Unit, bytes: &mut [u8], incoming: u8) -> u8
     ensures small { result < radix_of unit }
     ensures whole { number binary bytes.new + 256 ^ length bytes.old * result ≡ radix_of unit * number binary bytes.old + incoming % radix_of unit }
 {
-    let radix = radix(unit);
+    let radix = unit.radix();
     let mut carry = u16::from(incoming) % radix;
-    for (_i, byte) in bytes.iter_mut().enumerate() {
+    for byte in bytes.iter_mut() {
         let wide = u16::from(*byte) * radix + carry;
         *byte = (wide % 256) as u8;
         carry = wide / 256;
@@ -40,14 +40,16 @@ pub fn shift_left(unit: Unit, bytes: &mut [u8], incoming: u8) -> u8
 }
 
 // Shifts the row down, puts the low bit or digit of `incoming` in above, and gives what is lost below.
+#[tactic(auto, using(crate::proofs::Shifting::right_whole))]
 pub fn shift_right(unit: Unit, bytes: &mut [u8], incoming: u8) -> u8
     ensures row { bytes.new ≡ right_row (radix_of unit) bytes.old (incoming % radix_of unit) }
     ensures out { result ≡ right_out (radix_of unit) bytes.old (incoming % radix_of unit) }
     ensures small { result < radix_of unit }
     ensures whole { radix_of unit * number binary bytes.new + result ≡ number binary bytes.old + 256 ^ length bytes.old * (incoming % radix_of unit) }
 {
-    let radix = radix(unit);
+    let radix = unit.radix();
     let mut carry = u16::from(incoming) % radix;
+    // By index: of a loop over `iter_mut().rev()`, a proof does not learn which bytes were written.
     for i in (0..bytes.len()).rev() {
         let wide = carry * 256 + u16::from(bytes[i]);
         bytes[i] = (wide / radix) as u8;

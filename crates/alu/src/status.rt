@@ -1,7 +1,6 @@
 // What is seen of a result.
-ghost use Rattle.std.specs.Prelude.{◌≡◌, nat_le};
-ghost use Rattle.counting.specs.Chain.{first};
-ghost use Rattle.alu.specs.Seen.{last_of, sized, all_zero, seen};
+ghost use Rattle.std.specs.Prelude.{◌≡◌};
+ghost use Rattle.alu.specs.Seen.{last_of, negative, all_zero, seen};
 
 use counting::byte_at;
 use registers::Status;
@@ -9,36 +8,19 @@ use registers::Status;
 fn is_zero(row: &[u8]) -> bool
     ensures { result ≡ all_zero row.now }
 {
-    for b in row {
-        if *b != 0 {
-            return false;
-        }
-    }
-    true
+    row.iter().all(|b| *b == 0)
 }
 
-fn first_byte(row: &[u8]) -> u8
-    ensures { result ≡ first row.now }
-{
-    match row {
-        [b, ..] => *b,
-        [] => 0,
-    }
-}
-
+// The highest byte.
 pub fn last_byte(row: &[u8]) -> u8
     ensures { result ≡ last_of row.now }
 {
-    match row {
-        [.., b] => *b,
-        [] => 0,
-    }
+    row.last().copied().unwrap_or(0)
 }
 
 // The sign of the row's first n bytes, which goes on with zero bytes.
-#[tactic(auto, using(crate::proofs::Seeing::sized_last_at))]
 pub fn is_negative(row: &[u8], n: usize) -> bool
-    ensures { result ≡ nat_le 128 (last_of (sized n row.now)) }
+    ensures { result ≡ negative n row.now }
 {
     n > 0 && byte_at(row, n - 1) >= 128
 }
@@ -47,7 +29,7 @@ pub fn is_negative(row: &[u8], n: usize) -> bool
 pub fn see(status: Status, cy: bool, ovf: bool, row: &[u8]) -> Status
     ensures { result ≡ seen status cy ovf row.now }
 {
-    let first = first_byte(row);
+    let first = row.first().copied().unwrap_or(0);
     let last = last_byte(row);
     Status {
         dcm: status.dcm,

@@ -17,7 +17,7 @@ Balance Negate p a b c out d = out + a + bit c ≡ p * bit d
 Balance Complement p a b c out d = (out + a + 1 ≡ p) × (d ≡ c)
 
 -- one byte more
-step : (b p n m v w c d out : ℕ) → v + b * d ≡ w + c → n + p * out ≡ m + d → v + b * n + p * b * out ≡ w + b * m + c
+pub step : (b p n m v w c d out : ℕ) → v + b * d ≡ w + c → n + p * out ≡ m + d → v + b * n + p * b * out ≡ w + b * m + c
 step b p n m v w c d out one more = omega (arith, simp mul-add at (ap (λ z. b * z) more), mul_assoc b p out, ap (λ z. z * out) (mul_comm b p))
 
 more : (l : Link) (b p x y v a k n : ℕ) (c d e : Bool) → Balance l b x y c v d → Balance l p a k d n e → Balance l (p * b) (x + b * a) (y + b * k) c (v + b * n) e
