@@ -36,7 +36,7 @@ pub enum Operation {
 }
 
 // The status and E, as an operation finds or leaves them.
-#[derive(Clone, Copy)]
+#[derive(Clone, Copy, PartialEq, Eq, Debug)]
 pub struct Flags {
     pub status: Status,
     pub e: u8,

@@ -1,4 +1,4 @@
-use Rattle.std.proofs.Common.{◌∙◌, rules}
+use Rattle.std.proofs.Common.{rules}
 use Rattle.counting.proofs.Binaries.{bytes_lawful}
 use Rattle.alu.proofs.Signs.{signs_tell}
 use Rattle.alu.proofs.sums.combine.Goals as goal
