@@ -13,6 +13,7 @@ pub enum Logic {
     Replace,
 }
 
+// A match on data and not a closure, so that what `join` ensures is an equation.
 fn join_bytes(op: Logic, a: u8, b: u8) -> u8
     ensures { result ≡ joint op a b }
 {
@@ -28,6 +29,7 @@ fn join_bytes(op: Logic, a: u8, b: u8) -> u8
 pub fn join(op: Logic, bytes: &mut [u8], operand: &[u8])
     ensures { bytes.new ≡ joined_row op bytes.old operand.now }
 {
+    // The operand by its places: of a loop over a zip, a proof does not learn which bytes were written.
     for (i, byte) in bytes.iter_mut().enumerate() {
         *byte = join_bytes(op, *byte, byte_at(operand, i));
     }

@@ -1,18 +1,21 @@
 // Rows of one to eight bytes, as numbers in a u128.
-use alu::{Operation, Worked, operate};
-use registers::Status;
+ghost use Rattle.std.specs.Prelude.{◌≤◌};
+
+use crate::flags;
+use alu::{Flags, Operation, operate};
 use std::process::Abort;
 use std::test::Fail;
 
 const CASES: u32 = 1000;
 
-#[derive(Clone, Copy)]
+#[derive(Clone, Copy, PartialEq, Eq, Debug)]
 struct Case {
     data: [u8; 8],
     operand: [u8; 8],
     span: usize,
     digit: u8,
     seed: u64,
+    ghost short: { span ≤ 8 },
 }
 
 fn next(seed: u64) -> u64 {
@@ -31,8 +34,7 @@ fn digits(seed: u64) -> u8 {
     16 * high + low
 }
 
-fn fill(row: &mut [u8; 8], seed: u64, decimal: bool) -> u64 {
-    let mut seed = seed;
+fn fill(row: &mut [u8; 8], mut seed: u64, decimal: bool) -> u64 {
     for b in row.iter_mut() {
         seed = next(seed);
         *b = if decimal { digits(seed) } else { byte(seed) };
@@ -41,86 +43,59 @@ fn fill(row: &mut [u8; 8], seed: u64, decimal: bool) -> u64 {
 }
 
 fn make_case(seed: u64, decimal: bool) -> Case {
-    let mut first = [0u8; 8];
-    let mut second = [0u8; 8];
-    let seed = fill(&mut first, seed, decimal);
-    let seed = next(fill(&mut second, seed, decimal));
-    let span = 1 + ((seed >> 33) % 8) as usize;
-    let digit = ((seed >> 20) % 10) as u8;
+    let mut data = [0u8; 8];
+    let mut operand = [0u8; 8];
+    let seed = fill(&mut data, seed, decimal);
+    let seed = next(fill(&mut operand, seed, decimal));
     Case {
-        data: first,
-        operand: second,
-        span,
-        digit,
+        data,
+        operand,
+        span: 1 + ((seed >> 33) % 8) as usize,
+        digit: ((seed >> 20) % 10) as u8,
         seed,
     }
 }
 
-fn status(decimal: bool) -> Status {
-    Status {
-        dcm: decimal,
-        cy: false,
-        ovf: false,
-        lsb: false,
-        msb: false,
-        z: false,
-        ldz: false,
-        rdz: false,
+impl Case {
+    fn data(&self) -> &[u8] {
+        &self.data[..self.span]
+    }
+
+    fn operand(&self) -> &[u8] {
+        &self.operand[..self.span]
+    }
+
+    // How many numbers the bytes stand for.
+    fn whole(&self, decimal: bool) -> u128 {
+        let base: u128 = if decimal { 100 } else { 256 };
+        base.wrapping_pow(self.span as u32)
     }
 }
 
 fn value(row: &[u8], decimal: bool) -> u128 {
-    let mut v = 0u128;
-    for b in row.iter().rev() {
+    row.iter().rev().fold(0u128, |v, b| {
         let (base, digit) = if decimal {
             (100, u128::from(*b / 16) * 10 + u128::from(*b % 16))
         } else {
             (256, u128::from(*b))
         };
-        v = v.wrapping_mul(base).wrapping_add(digit);
-    }
-    v
-}
-
-fn power(base: u128, n: usize) -> u128 {
-    let mut p = 1u128;
-    for _ in 0..n {
-        p = p.wrapping_mul(base);
-    }
-    p
+        v.wrapping_mul(base).wrapping_add(digit)
+    })
 }
 
 // One operation: the row as a number in base 100 or 256, and what was told of it.
-fn work(
-    op: Operation,
-    before: Status,
-    e: u8,
-    row: &mut [u8],
-    operand: &[u8],
-    hundreds: bool,
-) -> Result<(u128, Worked), Fail> {
-    match operate(op, before, e, row, operand) {
-        Ok(worked) => Ok((value(row, hundreds), worked)),
-        Err(_) => Err(Fail::new("a byte was not accepted")),
-    }
-}
-
 fn result(
     op: Operation,
     decimal: bool,
     hundreds: bool,
     case: &Case,
-) -> Result<(u128, Worked), Fail> {
+) -> Result<(u128, Flags), Fail> {
     let mut row = case.data;
-    let n = case.span.min(8);
-    work(
-        op,
-        status(decimal),
-        case.digit,
-        &mut row[0..n],
-        &case.operand[0..n],
-        hundreds,
-    )
+    let bytes = &mut row[..case.span];
+    let Ok(told) = operate(op, flags(decimal, case.digit), bytes, case.operand()) else {
+        return Err(Fail::new("a byte was not accepted"));
+    };
+    Ok((value(bytes, hundreds), told))
 }
 
 // The number that a stands for as a signed one of `whole` numbers, with `whole` added.
@@ -139,10 +114,9 @@ fn unfit(sum: u128, whole: u128) -> bool {
 }
 
 fn sums(rt: &impl Abort, decimal: bool, case: &Case) -> Result<(), Fail> {
-    let n = case.span.min(8);
-    let whole = power(if decimal { 100 } else { 256 }, n);
-    let a = value(&case.data[0..n], decimal);
-    let b = value(&case.operand[0..n], decimal);
+    let whole = case.whole(decimal);
+    let a = value(case.data(), decimal);
+    let b = value(case.operand(), decimal);
     let (sum, told) = result(Operation::Add, decimal, decimal, case)?;
     let carried = if told.status.cy { whole } else { 0 };
     assert_eq!(rt; sum.wrapping_add(carried), a.wrapping_add(b));
@@ -159,9 +133,8 @@ fn sums(rt: &impl Abort, decimal: bool, case: &Case) -> Result<(), Fail> {
 }
 
 fn counts(rt: &impl Abort, decimal: bool, case: &Case) -> Result<(), Fail> {
-    let n = case.span.min(8);
-    let whole = power(if decimal { 100 } else { 256 }, n);
-    let a = value(&case.data[0..n], decimal);
+    let whole = case.whole(decimal);
+    let a = value(case.data(), decimal);
     let (more, told) = result(Operation::Increment, decimal, decimal, case)?;
     let carried = if told.status.cy { whole } else { 0 };
     assert_eq!(rt; more.wrapping_add(carried), a.wrapping_add(1));
@@ -178,7 +151,7 @@ fn counts(rt: &impl Abort, decimal: bool, case: &Case) -> Result<(), Fail> {
 }
 
 // The digit or bit that a shift lost.
-fn lost(decimal: bool, told: Worked) -> u128 {
+fn lost(decimal: bool, told: Flags) -> u128 {
     if decimal {
         u128::from(told.e)
     } else {
@@ -187,10 +160,9 @@ fn lost(decimal: bool, told: Worked) -> u128 {
 }
 
 fn shifts(rt: &impl Abort, decimal: bool, case: &Case) -> Result<(), Fail> {
-    let n = case.span.min(8);
-    let whole = power(256, n);
+    let whole = case.whole(false);
     let radix = if decimal { 16 } else { 2 };
-    let a = value(&case.data[0..n], false);
+    let a = value(case.data(), false);
     let (up, told) = result(Operation::LogicalLeft, decimal, false, case)?;
     let out = whole.wrapping_mul(lost(decimal, told));
     assert_eq!(rt; up.wrapping_add(out), a.wrapping_mul(radix));
