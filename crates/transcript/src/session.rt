@@ -1,9 +1,8 @@
 // A tape that is being played, with all that the player works on.
 ghost use Rattle.std.specs.Prelude.{◌≡◌, ◌++◌, [], IfOk, OnOk};
 ghost use Rattle.play.specs.Lines.{lines_of};
-ghost use Rattle.play.specs.Play.{play_of};
 ghost use Rattle.transcript.specs.Printed.{start};
-ghost use Rattle.transcript.specs.Sessions.{tape_in, world_in};
+ghost use Rattle.transcript.specs.Sessions.{tape_in, world_in, next_in};
 
 use memory::Memory;
 use play::Player;
@@ -38,8 +37,8 @@ impl<'a> Session<'a> {
     // Plays one record, and adds its lines to the text.
     pub fn play_record(&mut self) -> Result<(), AllocError>
         ensures tape { tape_in self.new ≡ tape_in self.old }
-        ensures world { world_in self.new ≡ (play_of 512 (tape_in self.old) (world_in self.old)).after }
-        ensures text { OnOk result (self.new.text.items ≡ self.old.text.items ++ lines_of (play_of 512 (tape_in self.old) (world_in self.old)).outcome) }
+        ensures world { world_in self.new ≡ (next_in self.old).after }
+        ensures text { OnOk result (self.new.text.items ≡ self.old.text.items ++ lines_of (next_in self.old).outcome) }
     {
         let played = self
             .player
