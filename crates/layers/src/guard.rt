@@ -1,22 +1,34 @@
 // A layer that refuses stores to a range of addresses.
 ghost use Rattle.std.specs.Prelude.{◌≡◌, ℕ};
 ghost use Rattle.layers.specs.Kept.{guard_rules};
-ghost use Rattle.layers.specs.Layers.{guard_meaning, guarded};
+ghost use Rattle.layers.specs.Layers.{guard_admits, guard_meaning, guarded};
 
 use bus::{Bus, BusRefusal, Cause, raise};
 
 // Locks the addresses from first to last; with first above last it locks none.
-#[derive(Drop)]
+#[derive(Clone, PartialEq, Eq, Debug, Drop)]
 pub struct Guard<B> {
     pub first: u16,
     pub last: u16,
     pub below: B,
 }
 
-pub fn locks(first: u16, last: u16, address: u16) -> bool
-    ensures { result ≡ guarded first last address }
-{
-    first <= address && address <= last
+impl<B> Guard<B> {
+    pub fn locks(&self, address: u16) -> bool
+        ensures { result ≡ guarded self.now.first self.now.last address }
+    {
+        (self.first..=self.last).contains(&address)
+    }
+
+    // Refuses a store to a locked address.
+    pub fn admit(&self, address: u16) -> Result<(), BusRefusal>
+        ensures { result ≡ guard_admits self.now.first self.now.last address }
+    {
+        if self.locks(address) {
+            return Err(BusRefusal::here(Cause::Guarded));
+        }
+        Ok(())
+    }
 }
 
 impl<B: Bus> Bus for Guard<B> {
@@ -33,16 +45,12 @@ impl<B: Bus> Bus for Guard<B> {
     }
 
     fn inquire(&self, address: u16) -> Result<(), BusRefusal> {
-        if locks(self.first, self.last, address) {
-            return Err(BusRefusal::here(Cause::Guarded));
-        }
+        self.admit(address)?;
         raise(self.below.inquire(address))
     }
 
     fn store(&mut self, address: u16, byte: u8) -> Result<(), BusRefusal> {
-        if locks(self.first, self.last, address) {
-            return Err(BusRefusal::here(Cause::Guarded));
-        }
+        self.admit(address)?;
         raise(self.below.store(address, byte))
     }
 }

@@ -6,7 +6,7 @@ mod page;
 mod shadow;
 mod split;
 
-pub use guard::{Guard, locks};
+pub use guard::Guard;
 pub use page::Page;
 pub use shadow::Shadow;
 pub use split::Split;

@@ -6,7 +6,7 @@ ghost use Rattle.layers.specs.Pages.{kept_of};
 use bus::{BusRefusal, Cause, raise};
 
 // The page is the 256 addresses from 256 times its number on.
-#[derive(Drop)]
+#[derive(Clone, PartialEq, Eq, Debug, Drop)]
 pub struct Page {
     number: u8,
     kept: [Option<u8>; 256],
@@ -18,8 +18,10 @@ impl Page {
         ensures number { result.number ≡ number }
         ensures kept { kept_of result ≡ (λ _. None) }
     {
-        let kept = [None; 256];
-        Page { number, kept }
+        Page {
+            number,
+            kept: [None; 256],
+        }
     }
 
     fn covers(&self, address: u16) -> bool
@@ -46,8 +48,7 @@ impl Page {
         if !self.covers(address) {
             return Err(BusRefusal::here(Cause::OutsideShadow));
         }
-        raise(below)?;
-        Ok(())
+        raise(below).map(|_| ())
     }
 
     // Keeps the byte if the store is taken.

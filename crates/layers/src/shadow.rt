@@ -7,10 +7,10 @@ ghost use Rattle.layers.specs.Pages.{kept_of};
 use crate::page::Page;
 use bus::{Bus, BusRefusal, raise};
 
-#[derive(Drop)]
+#[derive(Clone, PartialEq, Eq, Debug, Drop)]
 pub struct Shadow<B> {
-    page: Page,
-    below: B,
+    pub page: Page,
+    pub below: B,
 }
 
 impl<B> Shadow<B> {
@@ -26,7 +26,7 @@ impl<B> Shadow<B> {
         }
     }
 
-    // The bus below, as it was handed in.
+    // The bus below, which no store has changed.
     pub fn into_below(self) -> B
         ensures { result ≡ self.below }
     {
@@ -55,8 +55,8 @@ impl<B: Bus> Bus for Shadow<B> {
         self.page.inquire(self.below.read(address), address)
     }
 
+    #[tactic(auto, using(crate::proofs::Stores::shadow_stored))]
     fn store(&mut self, address: u16, byte: u8) -> Result<(), BusRefusal> {
-        let below = self.below.read(address);
-        self.page.store(below, address, byte)
+        self.page.store(self.below.read(address), address, byte)
     }
 }

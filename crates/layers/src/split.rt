@@ -5,7 +5,7 @@ ghost use Rattle.layers.specs.Layers.{split_meaning};
 
 use bus::{Bus, BusRefusal, raise};
 
-#[derive(Drop)]
+#[derive(Clone, PartialEq, Eq, Debug, Drop)]
 pub struct Split<L, U> {
     pub at: u16,
     pub low: L,
@@ -22,26 +22,26 @@ impl<L: Bus, U: Bus> Bus for Split<L, U> {
     ghost rules = { λ s. split_rules s.at (L.Bus.meaning s.low) (U.Bus.meaning s.high) (L.Bus.rules s.low) (U.Bus.rules s.high) };
 
     fn read(&self, address: u16) -> Result<u8, BusRefusal> {
-        if address < self.at {
-            raise(self.low.read(address))
+        raise(if address < self.at {
+            self.low.read(address)
         } else {
-            raise(self.high.read(address))
-        }
+            self.high.read(address)
+        })
     }
 
     fn inquire(&self, address: u16) -> Result<(), BusRefusal> {
-        if address < self.at {
-            raise(self.low.inquire(address))
+        raise(if address < self.at {
+            self.low.inquire(address)
         } else {
-            raise(self.high.inquire(address))
-        }
+            self.high.inquire(address)
+        })
     }
 
     fn store(&mut self, address: u16, byte: u8) -> Result<(), BusRefusal> {
-        if address < self.at {
-            raise(self.low.store(address, byte))
+        raise(if address < self.at {
+            self.low.store(address, byte)
         } else {
-            raise(self.high.store(address, byte))
-        }
+            self.high.store(address, byte)
+        })
     }
 }

@@ -1,30 +1,18 @@
 // A pile that is built at run time, of any height, over one kind of bus.
 ghost use Rattle.std.specs.Prelude.{◌≡◌, IfOk, None};
-ghost use Rattle.bus.specs.Meaning.{after};
 ghost use Rattle.piles.specs.Built.{built, outline, Outline};
 ghost use Rattle.piles.specs.Piles.{pile_meaning, pile_rules, bottom, guard, split, shadow, PilesAreBuses};
 
-use bus::{Bus, BusRefusal, Cause, raise};
-use layers::{Page, locks};
+use bus::{Bus, BusRefusal, raise};
+use layers::{Guard, Shadow, Split};
 use std::alloc::{AllocError, Global};
 
-#[derive(Drop)]
+#[derive(PartialEq, Eq, Debug, Drop)]
 pub enum Pile<B> {
     Bottom(B),
-    Guard {
-        first: u16,
-        last: u16,
-        below: Box<Pile<B>>,
-    },
-    Split {
-        at: u16,
-        low: Box<Pile<B>>,
-        high: Box<Pile<B>>,
-    },
-    Shadow {
-        page: Page,
-        below: Box<Pile<B>>,
-    },
+    Guard(Guard<Box<Pile<B>>>),
+    Split(Split<Box<Pile<B>>, Box<Pile<B>>>),
+    Shadow(Shadow<Box<Pile<B>>>),
 }
 
 impl<B: Bus + Drop> Pile<B> {
@@ -41,7 +29,7 @@ impl<B: Bus + Drop> Pile<B> {
         ensures made { IfOk result (λ p. built B.Bus.meaning B.Bus.rules p ≡ guard first last (built B.Bus.meaning B.Bus.rules self)) }
     {
         let below = Box::new(heap, self)?;
-        Ok(Pile::Guard { first, last, below })
+        Ok(Pile::Guard(Guard { first, last, below }))
     }
 
     // This pile for the addresses under `at`, the other for the rest.
@@ -50,93 +38,18 @@ impl<B: Bus + Drop> Pile<B> {
     {
         let low = Box::new(heap, self)?;
         let high = Box::new(heap, other)?;
-        Ok(Pile::Split { at, low, high })
+        Ok(Pile::Split(Split { at, low, high }))
     }
 
     pub fn shadowed(self, heap: Global, page: u8) -> Result<Pile<B>, AllocError>
         ensures made { IfOk result (λ p. built B.Bus.meaning B.Bus.rules p ≡ shadow page (λ _. None) (built B.Bus.meaning B.Bus.rules self)) }
     {
-        let below = Box::new(heap, self)?;
-        let page = Page::new(page);
-        Ok(Pile::Shadow { page, below })
+        Ok(Pile::Shadow(Shadow::new(page, Box::new(heap, self)?)))
     }
 }
 
-fn read_pile<B: Bus>(pile: &Pile<B>, address: u16) -> Result<u8, BusRefusal>
-    ensures { result ≡ (pile_meaning (built B.Bus.meaning B.Bus.rules pile.now)).reads address }
-{
-    match pile {
-        Pile::Bottom(bus) => bus.read(address),
-        Pile::Guard { below, .. } => raise(read_pile(below, address)),
-        Pile::Split { at, low, high } => {
-            if address < *at {
-                raise(read_pile(low, address))
-            } else {
-                raise(read_pile(high, address))
-            }
-        }
-        Pile::Shadow { page, below } => match page.byte(address) {
-            Some(byte) => Ok(byte),
-            None => raise(read_pile(below, address)),
-        },
-    }
-}
-
-fn read_boxed<B: Bus>(pile: &Box<Pile<B>>, address: u16) -> Result<u8, BusRefusal>
-    ensures { result ≡ (pile_meaning (built B.Bus.meaning B.Bus.rules pile.now.value)).reads address }
-{
-    read_pile(pile, address)
-}
-
-fn inquire_pile<B: Bus>(pile: &Pile<B>, address: u16) -> Result<(), BusRefusal>
-    ensures { result ≡ (pile_meaning (built B.Bus.meaning B.Bus.rules pile.now)).takes address }
-{
-    match pile {
-        Pile::Bottom(bus) => bus.inquire(address),
-        Pile::Guard { first, last, below } => {
-            if locks(*first, *last, address) {
-                return Err(BusRefusal::here(Cause::Guarded));
-            }
-            raise(inquire_pile(below, address))
-        }
-        Pile::Split { at, low, high } => {
-            if address < *at {
-                raise(inquire_pile(low, address))
-            } else {
-                raise(inquire_pile(high, address))
-            }
-        }
-        Pile::Shadow { page, below } => page.inquire(read_pile(below, address), address),
-    }
-}
-
-fn store_pile<B: Bus>(pile: &mut Pile<B>, address: u16, byte: u8) -> Result<(), BusRefusal>
-    ensures answer { result ≡ (pile_meaning (built B.Bus.meaning B.Bus.rules pile.old)).takes address }
-    ensures after { pile_meaning (built B.Bus.meaning B.Bus.rules pile.new) ≡ after (pile_meaning (built B.Bus.meaning B.Bus.rules pile.old)) address byte }
-    ensures held { outline B.Bus.held pile.new ≡ outline B.Bus.held pile.old }
-{
-    match pile {
-        Pile::Bottom(bus) => bus.store(address, byte),
-        Pile::Guard { first, last, below } => {
-            if locks(*first, *last, address) {
-                return Err(BusRefusal::here(Cause::Guarded));
-            }
-            raise(store_pile(below, address, byte))
-        }
-        Pile::Split { at, low, high } => {
-            if address < *at {
-                raise(store_pile(low, address, byte))
-            } else {
-                raise(store_pile(high, address, byte))
-            }
-        }
-        Pile::Shadow { page, below } => {
-            let below = read_boxed(below, address);
-            page.store(below, address, byte)
-        }
-    }
-}
-
+// An arm takes its layer's steps and calls itself for what is below. The layer's own `read` would do, but it needs this very impl,
+// and the check does not follow an impl back to itself where a method takes `&mut self`.
 impl<B: Bus> Bus for Pile<B> {
     ghost meaning = { λ s. pile_meaning (built B.Bus.meaning B.Bus.rules s) };
 
@@ -147,14 +60,51 @@ impl<B: Bus> Bus for Pile<B> {
     ghost rules = { λ s. pile_rules (built B.Bus.meaning B.Bus.rules s) };
 
     fn read(&self, address: u16) -> Result<u8, BusRefusal> {
-        read_pile(self, address)
+        match self {
+            Pile::Bottom(bus) => bus.read(address),
+            Pile::Guard(guard) => raise(guard.below.read(address)),
+            Pile::Split(split) => raise(if address < split.at {
+                split.low.read(address)
+            } else {
+                split.high.read(address)
+            }),
+            Pile::Shadow(shadow) => match shadow.page.byte(address) {
+                Some(byte) => Ok(byte),
+                None => raise(shadow.below.read(address)),
+            },
+        }
     }
 
     fn inquire(&self, address: u16) -> Result<(), BusRefusal> {
-        inquire_pile(self, address)
+        match self {
+            Pile::Bottom(bus) => bus.inquire(address),
+            Pile::Guard(guard) => {
+                guard.admit(address)?;
+                raise(guard.below.inquire(address))
+            }
+            Pile::Split(split) => raise(if address < split.at {
+                split.low.inquire(address)
+            } else {
+                split.high.inquire(address)
+            }),
+            Pile::Shadow(shadow) => shadow.page.inquire(shadow.below.read(address), address),
+        }
     }
 
+    #[tactic(auto, using(crate::proofs::Piles::low_after, crate::proofs::Piles::high_after, layers::proofs::Stores::shadow_stored))]
     fn store(&mut self, address: u16, byte: u8) -> Result<(), BusRefusal> {
-        store_pile(self, address, byte)
+        match self {
+            Pile::Bottom(bus) => bus.store(address, byte),
+            Pile::Guard(guard) => {
+                guard.admit(address)?;
+                raise(guard.below.store(address, byte))
+            }
+            Pile::Split(split) => raise(if address < split.at {
+                split.low.store(address, byte)
+            } else {
+                split.high.store(address, byte)
+            }),
+            Pile::Shadow(shadow) => { shadow.page.store(shadow.below.read(address), address, byte) }
+        }
     }
 }
