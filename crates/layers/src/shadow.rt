@@ -55,7 +55,7 @@ impl<B: Bus> Bus for Shadow<B> {
         self.page.inquire(self.below.read(address), address)
     }
 
-    #[tactic(auto, using(crate::proofs::Stores::shadow_stored))]
+    #[tactic(auto, using(crate::proofs::Stores::shadow_after))]
     fn store(&mut self, address: u16, byte: u8) -> Result<(), BusRefusal> {
         self.page.store(self.below.read(address), address, byte)
     }

@@ -91,7 +91,7 @@ impl<B: Bus> Bus for Pile<B> {
         }
     }
 
-    #[tactic(auto, using(crate::proofs::Piles::low_after, crate::proofs::Piles::high_after, layers::proofs::Stores::shadow_stored))]
+    #[tactic(auto, using(layers::proofs::Stores::low_after, layers::proofs::Stores::high_after, layers::proofs::Stores::shadow_after))]
     fn store(&mut self, address: u16, byte: u8) -> Result<(), BusRefusal> {
         match self {
             Pile::Bottom(bus) => bus.store(address, byte),
