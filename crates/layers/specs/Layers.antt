@@ -8,10 +8,11 @@ use Rattle.bus.specs.Meaning.{Meaning, here, raised, if_ok}
 abbrev pub guarded : ℕ → ℕ → ℕ → Bool
 guarded first last a = nat_le first a && nat_le a last
 
+-- A store to a locked address is refused.
 abbrev pub guard_admits : ℕ → ℕ → ℕ → Result (Unit {0}) BusRefusal
 guard_admits first last a = cond (guarded first last a) (Err (here Guarded)) (Ok tt)
 
--- A store to a locked address is refused; all else is the bus below.
+-- A locked address is refused stores; all else is the bus below.
 abbrev pub guard_meaning : ℕ → ℕ → Meaning → Meaning
 guard_meaning first last m = record { reads = λ a. raised (m.reads a); takes = λ a. cond (guarded first last a) (Err (here Guarded)) (raised (m.takes a)) }
 

@@ -30,8 +30,7 @@ impl<B> Shadow<B> {
     pub fn into_below(self) -> B
         ensures { result ≡ self.below }
     {
-        let Shadow { page: _, below } = self;
-        below
+        self.below
     }
 }
 

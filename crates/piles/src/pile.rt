@@ -44,12 +44,13 @@ impl<B: Bus + Drop> Pile<B> {
     pub fn shadowed(self, heap: Global, page: u8) -> Result<Pile<B>, AllocError>
         ensures made { IfOk result (λ p. built B.Bus.meaning B.Bus.rules p ≡ shadow page (λ _. None) (built B.Bus.meaning B.Bus.rules self)) }
     {
-        Ok(Pile::Shadow(Shadow::new(page, Box::new(heap, self)?)))
+        let below = Box::new(heap, self)?;
+        Ok(Pile::Shadow(Shadow::new(page, below)))
     }
 }
 
-// An arm takes its layer's steps and calls itself for what is below. The layer's own `read` would do, but it needs this very impl,
-// and the check does not follow an impl back to itself where a method takes `&mut self`.
+// An arm takes the steps of its layer and calls this impl for what is below. The layer's own methods would do, but they would lead
+// back to this impl through theirs, and the check makes no proof of that where a method takes `&mut self`.
 impl<B: Bus> Bus for Pile<B> {
     ghost meaning = { λ s. pile_meaning (built B.Bus.meaning B.Bus.rules s) };
 
