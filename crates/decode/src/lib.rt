@@ -11,6 +11,8 @@ use alu::Operation;
 pub use instruction::{Condition, Control, Instruction, Mode, Source};
 pub use registers::Form;
 
+// The parts of a code are numbers, and become enums in these functions alone. They are no `From` impls of the enums, since
+// only a part of a code stands for one.
 fn form(code: u8) -> Form
     ensures { result ≡ form_of code }
 {
