@@ -52,10 +52,9 @@ unit_of false = Bit
 abbrev pub radix_in : Flags → ℕ
 radix_in f = radix_of (unit_of f.status.dcm)
 
--- A logical shift puts 0 in; an extended one puts in E in decimal mode and CY in binary.
-abbrev pub incoming_of : Bool → Flags → ℕ
-incoming_of false f = 0
-incoming_of true f = cond f.status.dcm f.e (bit_of f.status.cy)
+-- What an extended shift puts in: E in decimal mode and CY in binary. A logical one puts in 0.
+abbrev pub incoming_of : Flags → ℕ
+incoming_of f = cond f.status.dcm f.e (bit_of f.status.cy)
 
 abbrev pub different : Bool → Bool → Bool
 different true b = not b
@@ -75,14 +74,14 @@ shifted_out f row out ovf = record {
 abbrev pub left_by : Flags → List ℕ → ℕ → Done
 left_by f xs c = shifted_out f (left_row (radix_in f) xs c) (left_out (radix_in f) xs c) (different (nat_le 128 (last_of xs)) (nat_le 128 (last_of (left_row (radix_in f) xs c))))
 
-abbrev pub left_done : Bool → Flags → List ℕ → Done
-left_done x f xs = left_by f xs (incoming_of x f % radix_in f)
+abbrev pub left_done : Flags → List ℕ → ℕ → Done
+left_done f xs incoming = left_by f xs (incoming % radix_in f)
 
 abbrev pub right_by : Flags → List ℕ → ℕ → Done
 right_by f xs c = shifted_out f (right_row (radix_in f) xs c) (right_out (radix_in f) xs c) false
 
-abbrev pub right_done : Bool → Flags → List ℕ → Done
-right_done x f xs = right_by f xs (incoming_of x f % radix_in f)
+abbrev pub right_done : Flags → List ℕ → ℕ → Done
+right_done f xs incoming = right_by f xs (incoming % radix_in f)
 
 -- The index of a byte that is not decimal: 0 to 7 in the data, 8 to 15 in the operand. A row has at most eight bytes.
 abbrev pub index_from : ℕ → Option ℕ → Result (Unit {0}) NotDecimal
@@ -115,10 +114,10 @@ checked _ d xs ys = Ok tt
 
 -- EL, ER, LL, LR, IC, DC, TC, NC, TS, CL, OR, XR, AN, LD, CM, AD, SB, in this order.
 abbrev pub worked : Operation → Flags → List ℕ → List ℕ → Done
-worked ExtendedLeft f xs ys = left_done true f xs
-worked ExtendedRight f xs ys = right_done true f xs
-worked LogicalLeft f xs ys = left_done false f xs
-worked LogicalRight f xs ys = right_done false f xs
+worked ExtendedLeft f xs ys = left_done f xs (incoming_of f)
+worked ExtendedRight f xs ys = right_done f xs (incoming_of f)
+worked LogicalLeft f xs ys = left_done f xs 0
+worked LogicalRight f xs ys = right_done f xs 0
 worked Increment f xs ys = summed f xs (1 ∷ [])
 worked Decrement f xs ys = lessened link.Subtract f xs (1 ∷ [])
 worked Negate f xs ys = lessened link.Negate f xs []

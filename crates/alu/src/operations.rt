@@ -93,12 +93,10 @@ impl Flags {
     }
 
     // What an extended shift puts in: E in decimal mode, the carry in binary.
-    fn incoming(self, extended: bool) -> u8
-        ensures { result ≡ incoming_of extended self }
+    fn incoming(self) -> u8
+        ensures { result ≡ incoming_of self }
     {
-        if !extended {
-            0
-        } else if self.status.dcm {
+        if self.status.dcm {
             self.e
         } else {
             u8::from(self.status.cy)
@@ -119,19 +117,19 @@ impl Flags {
         }
     }
 
-    fn left(self, extended: bool, bytes: &mut [u8]) -> Flags
-        ensures { done bytes.new result ≡ left_done extended self bytes.old }
+    fn left(self, incoming: u8, bytes: &mut [u8]) -> Flags
+        ensures { done bytes.new result ≡ left_done self bytes.old incoming }
     {
         let before = last_byte(bytes) >= 128;
-        let out = shift_left(self.unit(), bytes, self.incoming(extended));
+        let out = shift_left(self.unit(), bytes, incoming);
         let after = last_byte(bytes) >= 128;
         self.shift_out(bytes, out, before != after)
     }
 
-    fn right(self, extended: bool, bytes: &mut [u8]) -> Flags
-        ensures { done bytes.new result ≡ right_done extended self bytes.old }
+    fn right(self, incoming: u8, bytes: &mut [u8]) -> Flags
+        ensures { done bytes.new result ≡ right_done self bytes.old incoming }
     {
-        let out = shift_right(self.unit(), bytes, self.incoming(extended));
+        let out = shift_right(self.unit(), bytes, incoming);
         self.shift_out(bytes, out, false)
     }
 
@@ -149,15 +147,47 @@ impl Flags {
         self.see_plain(bytes)
     }
 
+    // In decimal mode, refuses a row for its first byte that is not two digits.
+    fn check_digits(self, from: u8, row: &[u8]) -> Result<(), NotDecimal>
+        requires { from ≤ 8 }
+        ensures { result ≡ digits_of self.status.dcm from row.now }
+    {
+        if self.status.dcm
+            && let Some(i) = first_refused::<Decimal>(row)
+        {
+            return Err(NotDecimal {
+                index: from + (i % 8) as u8,
+            });
+        }
+        Ok(())
+    }
+
+    // The data first, then the operand, whose bytes have the indices from 8 on.
+    fn check(self, op: Operation, row: &[u8], operand: &[u8]) -> Result<(), NotDecimal>
+        ensures { result ≡ checked op self.status.dcm row.now operand.now }
+    {
+        match op {
+            Operation::Increment
+            | Operation::Decrement
+            | Operation::Negate
+            | Operation::Complement => self.check_digits(0, row),
+            Operation::Compare | Operation::Add | Operation::Subtract => {
+                self.check_digits(0, row)?;
+                self.check_digits(8, operand)
+            }
+            _ => Ok(()),
+        }
+    }
+
     // The operation, on bytes that it accepts.
     fn work(self, op: Operation, bytes: &mut [u8], operand: &[u8]) -> Flags
         ensures { done bytes.new result ≡ worked op self bytes.old operand.now }
     {
         match op {
-            Operation::ExtendedLeft => self.left(true, bytes),
-            Operation::ExtendedRight => self.right(true, bytes),
-            Operation::LogicalLeft => self.left(false, bytes),
-            Operation::LogicalRight => self.right(false, bytes),
+            Operation::ExtendedLeft => self.left(self.incoming(), bytes),
+            Operation::ExtendedRight => self.right(self.incoming(), bytes),
+            Operation::LogicalLeft => self.left(0, bytes),
+            Operation::LogicalRight => self.right(0, bytes),
             Operation::Increment => self.add(bytes, &[1]),
             Operation::Decrement => self.lessen(Link::Subtract, bytes, &[1]),
             Operation::Negate => self.lessen(Link::Negate, bytes, &[]),
@@ -174,34 +204,6 @@ impl Flags {
     }
 }
 
-// In decimal mode, refuses a row for its first byte that is not two digits.
-fn check_digits(decimal: bool, from: u8, row: &[u8]) -> Result<(), NotDecimal>
-    requires { from ≤ 8 }
-    ensures { result ≡ digits_of decimal from row.now }
-{
-    if decimal && let Some(i) = first_refused::<Decimal>(row) {
-        return Err(NotDecimal {
-            index: from + (i % 8) as u8,
-        });
-    }
-    Ok(())
-}
-
-// The data first, then the operand, whose bytes have the indices from 8 on.
-fn check(op: Operation, decimal: bool, row: &[u8], operand: &[u8]) -> Result<(), NotDecimal>
-    ensures { result ≡ checked op decimal row.now operand.now }
-{
-    match op {
-        Operation::Increment | Operation::Decrement | Operation::Negate | Operation::Complement =>
-            check_digits(decimal, 0, row),
-        Operation::Compare | Operation::Add | Operation::Subtract => {
-            check_digits(decimal, 0, row)?;
-            check_digits(decimal, 8, operand)
-        }
-        _ => Ok(()),
-    }
-}
-
 // Works on the row in place. A refused operation leaves it as it was.
 pub fn operate(
     op: Operation,
@@ -212,6 +214,6 @@ pub fn operate(
     ensures outcome { left_of bytes.new result ≡ operated op flags bytes.old operand.now }
     ensures row { bytes.new ≡ row_after bytes.old (operated op flags bytes.old operand.now) }
 {
-    check(op, flags.status.dcm, bytes, operand)?;
+    flags.check(op, bytes, operand)?;
     Ok(flags.work(op, bytes, operand))
 }
