@@ -2,25 +2,18 @@
 use Rattle.std.proofs.Common.{◌≡◌, ℕ, zero, suc, ◌+◌, ◌-◌, ◌<◌, ◌⊎◌, inl, inr, true, false, cond, List, [], ◌++◌, length, min, take, sym, refl, ap, ◌∙◌, arith}
 use Rattle.std.proofs.lemmas.Grind.{common_steps}
 use Rattle.std.proofs.lemmas.List.{take_min}
-use Rattle.tape.specs.Records.{Entry}
 use Rattle.tape.proofs.Sizes.{record_fits}
 use Rattle.play.specs.Lines.{lines_of}
-use Rattle.play.specs.Work.{Stage, refused, Scene, work_on}
-use Rattle.play.specs.Play.{World, place_after, play_of, over_of}
+use Rattle.play.specs.Work.{refused}
+use Rattle.play.specs.Play.{World, play_of, over_of}
 use Rattle.transcript.specs.Printed.{printed, start, transcript_of, EveryRecordIsPlayed}
-
-work_moves : (e : Entry) (g : Stage) (s : Scene) (place n : ℕ) → ((work_on e g s).after.stage ≡ refused) ⊎ (place_after (work_on e g s).outcome place n ≡ place + n)
-work_moves e g s place n = grind (arith, common_steps)
 
 -- n records are as many as can be played
 abbrev Enough : ℕ → List ℕ → World → Type 0
 Enough n tape w = (w.scene.stage ≡ refused) ⊎ (length tape - w.place < n)
 
-moves : (tape : List ℕ) (w : World) → Enough (length tape - w.place) tape (play_of 512 tape w).after
-moves tape w = grind (arith, common_steps, work_moves, record_fits)
-
-next : (n : ℕ) (tape : List ℕ) (w : World) → length tape - w.place < suc n → Enough n tape (play_of 512 tape w).after
-next n tape w h = elim (moves tape w) [ inl r ↦ inl r | inr l ↦ inr (omega arith) ]
+moves : (n : ℕ) (tape : List ℕ) (w : World) → length tape - w.place < suc n → Enough n tape (play_of 512 tape w).after
+moves n tape w h = grind (arith, common_steps, record_fits)
 
 -- after a refusal nothing is printed
 none_printed : (n : ℕ) (tape : List ℕ) (w : World) → w.scene.stage ≡ refused → printed n tape w ≡ []
@@ -36,7 +29,7 @@ agree m n tape w (inr h) (inl r) = none_printed m tape w r ∙ sym (none_printed
 agree zero n tape w (inr h) (inr l) = absurd (omega arith)
 agree (suc m) zero tape w (inr h) (inr l) = absurd (omega arith)
 agree (suc m) (suc n) tape w (inr h) (inr l) =
-    ap (λ t. cond (over_of w.scene.stage tape w.place) [] (lines_of (play_of 512 tape w).outcome ++ t)) (agree m n tape (play_of 512 tape w).after (next m tape w h) (next n tape w l))
+    ap (λ t. cond (over_of w.scene.stage tape w.place) [] (lines_of (play_of 512 tape w).outcome ++ t)) (agree m n tape (play_of 512 tape w).after (moves m tape w h) (moves n tape w l))
 
 pub every_record_is_played : EveryRecordIsPlayed
 every_record_is_played tape more = agree (length tape + 1 + more) (length tape + 1) tape start (inr (omega arith)) (inr (omega arith))
@@ -58,5 +51,5 @@ left_over tape text whole w o h = grind (arith, common_steps)
 pub left_more : (tape tape' text text' whole : List ℕ) (w w' : World) → over_of w.scene.stage tape w.place ≡ false → tape' ≡ tape → w' ≡ (play_of 512 tape w).after → text' ≡ text ++ lines_of (play_of 512 tape w).outcome → text ++ left tape w ≡ whole → text' ++ left tape' w' ≡ whole
 unfolding left printed
 left_more tape tape' text text' whole w w' o t s e h =
-    let same = agree (length tape - w.place) (suc (length tape - (play_of 512 tape w).after.place)) tape (play_of 512 tape w).after (moves tape w) (inr (omega arith)) in
+    let same = agree (length tape - w.place) (suc (length tape - (play_of 512 tape w).after.place)) tape (play_of 512 tape w).after (moves (length tape - w.place) tape w (omega arith)) (inr (omega arith)) in
     grind (arith, common_steps, same)
