@@ -148,15 +148,14 @@ impl Flags {
     }
 
     // In decimal mode, refuses a row for its first byte that is not two digits.
-    fn check_digits(self, from: u8, row: &[u8]) -> Result<(), NotDecimal>
-        requires { from ≤ 8 }
-        ensures { result ≡ digits_of self.status.dcm from row.now }
+    fn check_digits(self, row: &[u8]) -> Result<(), NotDecimal>
+        ensures { result ≡ digits_of self.status.dcm 0 row.now }
     {
         if self.status.dcm
             && let Some(i) = first_refused::<Decimal>(row)
         {
             return Err(NotDecimal {
-                index: from + (i % 8) as u8,
+                index: (i % 8) as u8,
             });
         }
         Ok(())
@@ -170,10 +169,12 @@ impl Flags {
             Operation::Increment
             | Operation::Decrement
             | Operation::Negate
-            | Operation::Complement => self.check_digits(0, row),
+            | Operation::Complement => self.check_digits(row),
             Operation::Compare | Operation::Add | Operation::Subtract => {
-                self.check_digits(0, row)?;
-                self.check_digits(8, operand)
+                self.check_digits(row)?;
+                self.check_digits(operand).map_err(|n| NotDecimal {
+                    index: 8 + n.index % 8,
+                })
             }
             _ => Ok(()),
         }
