@@ -1,5 +1,6 @@
 -- What is printed of a record. Each line ends with byte 10.
-use Rattle.std.specs.Prelude.{ℕ, ◌+◌, List, [], ◌∷◌, Ok, Err, codes, Result, slice_index}
+use Rattle.std.specs.Prelude.{ℕ, ◌+◌, ◌*◌, List, [], ◌∷◌, ◌++◌, Ok, Err, codes, Result, slice_range}
+use Rattle.std.specs.List.{flat_map, range_with_len}
 use Rattle.registers.specs.Bits.{status_byte}
 use Rattle.text.specs.declared.Piece.{Piece}
 use Rattle.text.specs.declared.Piece.TheVariants.{Byte, Word, Decimal, Octal2, Hex1, Hex2, Row}
@@ -14,23 +15,19 @@ use Rattle.play.specs.Numbers.{refusal_number}
 
 -- Eight registers from i on.
 abbrev pub row_of : List ℕ → ℕ → Piece
-row_of rs i = Row (slice_index rs i ∷ slice_index rs (i + 1) ∷ slice_index rs (i + 2) ∷ slice_index rs (i + 3) ∷ slice_index rs (i + 4) ∷ slice_index rs (i + 5) ∷ slice_index rs (i + 6) ∷ slice_index rs (i + 7) ∷ [])
+row_of rs i = Row (slice_range rs i (i + 8))
 
--- A line of registers: R, the number of the first in octal, and the eight.
-abbrev pub register_line : ℕ → Piece → List Piece → List Piece
-register_line i row more = Byte 82 ∷ Octal2 i ∷ row ∷ Byte 10 ∷ more
+-- A line of registers: R, the number of the first in octal, and the eight. There are eight such lines.
+abbrev pub register_line : List ℕ → ℕ → List Piece
+register_line rs n = Byte 82 ∷ Octal2 (8 * n) ∷ row_of rs (8 * n) ∷ Byte 10 ∷ []
 
 -- EN, the pointers ARP and DRP in octal, E and the status in hexadecimal.
-abbrev pub end_line : ReadOut → List Piece → List Piece
-end_line o more = Word (codes "EN ") ∷ Octal2 o.arp ∷ Byte 32 ∷ Octal2 o.drp ∷ Byte 32 ∷ Hex1 o.e ∷ Byte 32 ∷ Hex2 (status_byte o.status) ∷ Byte 10 ∷ more
-
-abbrev pub end_with : ReadOut → (ℕ → Piece) → List Piece
-end_with o row =
-    end_line o (register_line 0 (row 0) (register_line 8 (row 8) (register_line 16 (row 16) (register_line 24 (row 24) (register_line 32 (row 32) (register_line 40 (row 40) (register_line 48 (row 48) (register_line 56 (row 56) []))))))))
+abbrev pub end_line : ReadOut → List Piece
+end_line o = Word (codes "EN ") ∷ Octal2 o.arp ∷ Byte 32 ∷ Octal2 o.drp ∷ Byte 32 ∷ Hex1 o.e ∷ Byte 32 ∷ Hex2 (status_byte o.status) ∷ Byte 10 ∷ []
 
 -- The read-out: the EN line and eight lines of registers.
 abbrev pub end_lines : ReadOut → List Piece
-end_lines o = end_with o (row_of o.registers)
+end_lines o = end_line o ++ flat_map (register_line o.registers) (range_with_len 0 8)
 
 -- NO, the refusal's number and the record's offset, both decimal.
 abbrev pub no_line : PlayFault → List Piece

@@ -2,7 +2,7 @@
 ghost use Rattle.std.specs.Prelude.{◌≡◌, ◌+◌, ◌≤◌, length};
 ghost use Rattle.byte_rows.specs.Rows.{over};
 ghost use Rattle.text.specs.Pieces.{joined, room};
-ghost use Rattle.play.specs.Lines.{end_lines, row_of, no_line, lines_of};
+ghost use Rattle.play.specs.Lines.{end_lines, no_line, lines_of};
 
 use crate::fault::{Event, PlayFault, Refusal};
 use engine::ReadOut;
@@ -11,43 +11,27 @@ use text::{Piece, put};
 // The least size of a line buffer.
 pub const BUFFER_SIZE: usize = 512;
 
-// Writes the pieces at the front of the buffer, and says how many bytes they take.
-fn put_pieces(out: &mut [u8; BUFFER_SIZE], pieces: &[Piece]) -> usize
-    requires { room pieces.now ≤ 512 }
-    ensures after { out.new ≡ over out.old 0 (joined pieces.now) }
-    ensures size { result ≡ length (joined pieces.now) }
-    ensures room { result ≤ 512 }
+// Writes the pieces from `at` on, and says where they end.
+fn put_pieces(out: &mut [u8; BUFFER_SIZE], at: usize, pieces: &[Piece]) -> usize
+    requires { at + room pieces.now ≤ 512 }
+    ensures after { out.new ≡ over out.old at (joined pieces.now) }
+    ensures place { result ≡ at + length (joined pieces.now) }
+    ensures room { result ≤ at + room pieces.now }
 {
-    put(out, pieces).unwrap_or(0)
+    put(out, at, pieces).unwrap_or(at)
 }
 
-fn row(registers: &[u8; 64], from: usize) -> Piece
-    requires { from + 8 ≤ 64 }
-    ensures { result ≡ row_of registers.now from }
-{
-    Piece::Row([
-        registers[from],
-        registers[from + 1],
-        registers[from + 2],
-        registers[from + 3],
-        registers[from + 4],
-        registers[from + 5],
-        registers[from + 6],
-        registers[from + 7],
-    ])
-}
-
+// The EN line, and eight lines of registers.
 fn put_end(out: &mut [u8; BUFFER_SIZE], read_out: ReadOut) -> usize
     ensures after { out.new ≡ over out.old 0 (joined (end_lines read_out)) }
     ensures size { result ≡ length (joined (end_lines read_out)) }
     ensures room { result ≤ 512 }
 {
-    let registers = read_out.registers;
-    let r = Piece::Byte(b'R');
     let space = Piece::Byte(b' ');
     let newline = Piece::Byte(b'\n');
-    put_pieces(
+    let mut wrote = put_pieces(
         out,
+        0,
         &[
             Piece::Word(*b"EN "),
             Piece::Octal2(read_out.arp),
@@ -58,42 +42,21 @@ fn put_end(out: &mut [u8; BUFFER_SIZE], read_out: ReadOut) -> usize
             space,
             Piece::Hex2(u8::from(read_out.status)),
             newline,
-            r,
-            Piece::Octal2(0),
-            row(&registers, 0),
-            newline,
-            r,
-            Piece::Octal2(8),
-            row(&registers, 8),
-            newline,
-            r,
-            Piece::Octal2(16),
-            row(&registers, 16),
-            newline,
-            r,
-            Piece::Octal2(24),
-            row(&registers, 24),
-            newline,
-            r,
-            Piece::Octal2(32),
-            row(&registers, 32),
-            newline,
-            r,
-            Piece::Octal2(40),
-            row(&registers, 40),
-            newline,
-            r,
-            Piece::Octal2(48),
-            row(&registers, 48),
-            newline,
-            r,
-            Piece::Octal2(56),
-            row(&registers, 56),
-            newline,
         ],
-    )
+    );
+    let (rows, _) = read_out.registers.as_chunks::<8>();
+    for (n, row) in rows.iter().enumerate() {
+        let first = Piece::Octal2(8 * n as u8);
+        wrote = put_pieces(
+            out,
+            wrote,
+            &[Piece::Byte(b'R'), first, Piece::Row(*row), newline],
+        );
+    }
+    wrote
 }
 
+// The number and the offset of a refused record.
 fn put_no(out: &mut [u8; BUFFER_SIZE], fault: PlayFault) -> usize
     ensures after { out.new ≡ over out.old 0 (joined (no_line fault)) }
     ensures size { result ≡ length (joined (no_line fault)) }
@@ -103,6 +66,7 @@ fn put_no(out: &mut [u8; BUFFER_SIZE], fault: PlayFault) -> usize
     let offset = Piece::Decimal(fault.offset as u64);
     put_pieces(
         out,
+        0,
         &[
             Piece::Word(*b"NO "),
             number,
@@ -114,18 +78,17 @@ fn put_no(out: &mut [u8; BUFFER_SIZE], fault: PlayFault) -> usize
 }
 
 // Writes the lines of what came of a record at the front of the buffer, and says how many bytes they take.
+#[tactic(auto, using(byte_rows::proofs::Writing::over_none, crate::proofs::Playing::joined_none))]
 pub fn put_lines(out: &mut [u8; BUFFER_SIZE], outcome: Result<Event, PlayFault>) -> usize
     ensures after { out.new ≡ over out.old 0 (lines_of outcome) }
     ensures size { result ≡ length (lines_of outcome) }
     ensures room { result ≤ 512 }
 {
     match outcome {
-        Ok(Event::Loaded) => put_pieces(out, &[]),
-        Ok(Event::Began) => put_pieces(out, &[]),
+        Ok(Event::Loaded | Event::Began) => 0,
         Ok(Event::Ended(read_out)) => put_end(out, read_out),
-        Err(fault) => match fault.refusal {
-            Refusal::Buffer => put_pieces(out, &[]),
-            _ => put_no(out, fault),
-        },
+        // A buffer that is too small gets no line.
+        Err(fault) if fault.refusal == Refusal::Buffer => 0,
+        Err(fault) => put_no(out, fault),
     }
 }

@@ -30,7 +30,7 @@ impl Phase {
     }
 
     // The phase is used up, and the next one comes out, unless the record is refused.
-    pub fn work(self, item: Record, memory: &mut Memory) -> Result<(Phase, Event), Refusal>
+    pub(crate) fn work(self, item: Record, memory: &mut Memory) -> Result<(Phase, Event), Refusal>
         ensures { (s : List ℕ) → worked result s (meaning_of memory.new) ≡ work_of (entry_of item.entry) (scene (stage_of self) s (meaning_of memory.old)) }
     {
         match (self, item) {

@@ -85,7 +85,7 @@ impl<'a> Player<'a> {
     }
 
     // Plays one record, and writes its lines at the front of the buffer; the rest of the buffer stays.
-    #[tactic(auto, using(byte_rows::proofs::Writing::over_none, crate::proofs::Playing::over_chunk), unfolding(text::specs::Pieces::joined))]
+    #[tactic(auto, using(byte_rows::proofs::Writing::over_none, crate::proofs::Playing::joined_none))]
     pub fn play(&mut self, memory: &mut Memory, sheet: &mut [u8], out: &mut [u8]) -> Played
         ensures outcome { result.outcome ≡ (play_of (length out.old) (tape_of self.old) (world_of self.old sheet.old (meaning_of memory.old))).outcome }
         ensures after { world_of self.new sheet.new (meaning_of memory.new) ≡ (play_of (length out.old) (tape_of self.old) (world_of self.old sheet.old (meaning_of memory.old))).after }

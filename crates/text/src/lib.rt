@@ -25,17 +25,17 @@ pub enum Piece {
     Row([u8; 8]),
 }
 
-// Writes the pieces one after another at the front of the buffer, and says how many bytes they take. Where the buffer
-// is smaller than the pieces may be at their widest, nothing is written.
-pub fn put(out: &mut [u8], pieces: &[Piece]) -> Option<usize>
-    ensures answer { result ≡ (if nat_le (room pieces.now) (length out.old) then Some (length (joined pieces.now)) else None) }
-    ensures after { out.new ≡ (if is_some result then over out.old 0 (joined pieces.now) else out.old) }
-    ensures room { IfSome result (λ n. n ≤ room pieces.now) }
+// Writes the pieces one after another from `at` on, and says where they end. Where the buffer may be too small for the
+// pieces at their widest, nothing is written.
+pub fn put(out: &mut [u8], at: usize, pieces: &[Piece]) -> Option<usize>
+    ensures answer { result ≡ (if nat_le (at + room pieces.now) (length out.old) then Some (at + length (joined pieces.now)) else None) }
+    ensures after { out.new ≡ (if is_some result then over out.old at (joined pieces.now) else out.old) }
+    ensures room { IfSome result (λ n. n ≤ at + room pieces.now) }
 {
-    if out.len() < room_of(pieces)? {
+    if out.len().checked_sub(at)? < room_of(pieces)? {
         return None;
     }
-    let mut line = Line { out, at: 0 };
+    let mut line = Line { out, at };
     for piece in pieces {
         line.put(*piece);
     }

@@ -1,7 +1,20 @@
+use Rattle.std.proofs.Common.{◌<◌, ◌≡◌, zero-add, arith, rules}
+use Rattle.std.specs.Simd.{first_chunks}
+use Rattle.play.specs.Lines.{end_line}
+use Rattle.play.proofs.Playing.{line_more}
 use Rattle.play.proofs.lines.put_end.Goals as goal
 
+pub loop-n-init : goal.loop-n-init
+loop-n-init c = (record { row = cc; end = cc }, omega arith)
+
+pub loop-n-preserved : goal.loop-n-preserved
+loop-n-preserved c =
+    let d : c.as_chunks.result.0.now ≡ first_chunks 8 8 c.args.read_out.registers = search rules in
+    let h : c.loop-n.n < 8 = omega arith in
+    (line_more _ _ _ _ _ (end_line c.args.read_out) c.args.read_out.registers c.loop-n.n h c.loop-n.invariant.0 (record { row = cc; end = cc }), omega arith)
+
 pub returns-clause-after : goal.returns-clause-after
-returns-clause-after c = cc
+returns-clause-after c = let e : c.loop-n.n ≡ 8 = omega arith in (rw e at c.loop-n.invariant.0).row
 
 pub returns-clause-size : goal.returns-clause-size
-returns-clause-size c = cc
+returns-clause-size c = let e : c.loop-n.n ≡ 8 = omega arith in rw zero-add at (rw e at c.loop-n.invariant.0).end
