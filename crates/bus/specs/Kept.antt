@@ -1,14 +1,8 @@
 -- RAM, ROM and the line board keep the bus rules. These proofs stand here since a bus's ghost member may cite only specs/.
-use Rattle.std.specs.Prelude.{ℕ, ◌≤◌, Bool, true, false, cond, List, length, Result}
+use Rattle.std.specs.Prelude.{ℕ, List, length}
 use Rattle.std.proofs.Common.{arith}
-use Rattle.bus.specs.declared.refusal.BusRefusal.{BusRefusal}
-use Rattle.bus.specs.Rules.{Rules, depth_of}
+use Rattle.bus.specs.Rules.{Rules}
 use Rattle.bus.specs.Kinds.{bytes_meaning, ram_meaning, rom_meaning}
-
--- a choice between two shallow answers is shallow
-pub cond_depth : {X : Type 0} (w : Bool) (r s : Result X BusRefusal) → depth_of r ≤ 255 → depth_of s ≤ 255 → depth_of (cond w r s) ≤ 255
-cond_depth true r s h k = h
-cond_depth false r s h k = k
 
 pub bytes_rules : (base n : ℕ) (bs : List ℕ) → Rules (bytes_meaning base n bs)
 bytes_rules base n bs = record {

@@ -1,3 +1,2 @@
 pub mod Pages
 pub mod Stores
-pub mod Loads

@@ -6,7 +6,7 @@ use layers::{Guard, Split};
 
 pub mod work;
 
-#[derive(Drop)]
+#[derive(PartialEq, Eq, Debug, Drop)]
 pub struct Memory {
     pile: Split<Guard<Ram>, LineBoard>,
     ghost split: { pile.at ≡ 32768 },
