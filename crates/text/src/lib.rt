@@ -1,5 +1,5 @@
-// Lines of text, written piece by piece to the front of a lent buffer. Nothing is allocated. It is not done by `Display` and
-// `write!`: a clause knows what those write only for a `String`, which is on the heap, and no record is refused for want of memory.
+// Lines of text, written piece by piece into a lent buffer. Nothing is allocated. It is not done by `Display` and `write!`: their
+// clauses say what is written where they answer Ok, and none says that they do, while `put` fails for want of room alone.
 #![tactic(auto)]
 
 ghost use Rattle.std.specs.Prelude.{◌≡◌, ◌+◌, ◌-◌, ◌*◌, ◌/◌, ◌%◌, ◌<◌, ◌≤◌, length, is_some, IfSome, if◌then◌else◌, Some, None, decimal, nat_le};
