@@ -4,9 +4,6 @@ use Rattle.play.specs.Lines.{end_line}
 use Rattle.play.proofs.Playing.{line_more}
 use Rattle.play.proofs.lines.put_end.Goals as goal
 
-pub loop-n-init : goal.loop-n-init
-loop-n-init c = (record { row = cc; end = cc }, omega arith)
-
 pub loop-n-preserved : goal.loop-n-preserved
 loop-n-preserved c =
     let d : c.as_chunks.result.0.now ≡ first_chunks 8 8 c.args.read_out.registers = search rules in

@@ -18,5 +18,6 @@ returns-clause-lines c =
     let lines = lines_of c.handle_at_place-outcome.result in
     ap (λ w. w ++ drop 512 c.args.out.now) (put.after ∙ ap (λ t. over t 0 lines) chunk.same) ∙ over_chunk c.args.out.now lines 512 (omega arith) chunk.enough
 
+-- by `cc`, so that a wrong number of bytes is refused for this and not at a limit
 pub returns-clause-wrote : goal.returns-clause-wrote
 returns-clause-wrote c = cc
