@@ -9,7 +9,7 @@ use engine::{Cold, Live};
 use memory::Memory;
 use tape::{Record, TapeFault, Turn};
 
-#[derive(Drop)]
+#[derive(Drop, PartialEq, Eq, Debug)]
 pub enum Phase {
     Loading(Cold),
     InService(Live),
