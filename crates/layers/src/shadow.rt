@@ -26,7 +26,7 @@ impl<B> Shadow<B> {
         }
     }
 
-    // The bus below, which no store has changed.
+    // The bus below, which no store through the shadow has changed.
     pub fn into_below(self) -> B
         ensures { result ≡ self.below }
     {
