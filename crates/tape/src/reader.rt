@@ -77,10 +77,7 @@ impl<'a> Reader<'a> {
             _ if turn == Turn::Over => return Err(TapeFault::OutOfTurn),
             _ => return Err(TapeFault::CutOff),
         };
-        if !turn.admits(mark) {
-            return Err(TapeFault::OutOfTurn);
-        }
-        match mark {
+        match turn.admit(mark)? {
             Mark::Load => self.load(),
             Mark::Go => self.go(),
             Mark::End => Ok(Record::End),

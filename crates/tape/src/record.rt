@@ -1,6 +1,5 @@
 // Records, their marks, and why one is refused.
-ghost use Rattle.std.specs.Prelude.{◌≡◌, Some, Ok, Err, cond};
-ghost use Rattle.tape.specs.declared.record.TapeFault.TheVariants.{OutOfTurn};
+ghost use Rattle.std.specs.Prelude.{◌≡◌, Some};
 ghost use Rattle.tape.specs.Records.{entry_of, size_of, tape_number, admit_of};
 
 // A load holds its bytes as a part of the tape, which begins at the offset.
@@ -64,14 +63,13 @@ impl Record<'_> {
 }
 
 impl Turn {
-    // Whether a record with this mark may come now.
-    pub(crate) fn admits(self, mark: Mark) -> bool
-        ensures { cond result (Ok mark) (Err OutOfTurn) ≡ admit_of self (Some mark) }
+    // The mark, where a record with it may come now.
+    pub(crate) fn admit(self, mark: Mark) -> Result<Mark, TapeFault>
+        ensures { result ≡ admit_of self (Some mark) }
     {
-        match self {
-            Turn::Cold => mark != Mark::End,
-            Turn::Live => mark == Mark::End,
-            Turn::Over => false,
+        match (self, mark) {
+            (Turn::Cold, Mark::Load | Mark::Go) | (Turn::Live, Mark::End) => Ok(mark),
+            _ => Err(TapeFault::OutOfTurn),
         }
     }
 }
