@@ -1,9 +1,7 @@
 -- One write after another.
-use Rattle.std.proofs.Common.{◌≡◌, ℕ, ◌+◌, ◌*◌, ◌/◌, ◌%◌, ◌^◌, ◌<◌, ◌≤◌, List, [], ◌∷◌, ◌++◌, length, take, get_or, decimal, sym, refl, ap, subst, ◌∙◌, add-zero, arith, length-append}
+use Rattle.std.proofs.Common.{◌≡◌, ℕ, ◌+◌, ◌*◌, ◌/◌, ◌%◌, ◌^◌, ◌<◌, ◌≤◌, List, [], ◌∷◌, ◌++◌, length, take, get_or, sym, refl, subst, ◌∙◌, add-zero, arith, length-append}
 use Rattle.std.specs.List.{flat_map}
-use Rattle.std.proofs.lemmas.List.{length_push}
 use Rattle.std.proofs.lemmas.Grind.{common_steps}
-use Rattle.std.proofs.lemmas.Fmt.{decimal_step, length-decimal-le}
 use Rattle.byte_rows.specs.Rows.{over}
 use Rattle.byte_rows.proofs.Writing.{over_over, over_none}
 use Rattle.text.specs.declared.Line.{Line}
@@ -52,16 +50,3 @@ hex4 l m k n h f g =
     let c : n % 256 / 16 ≡ n / 16 % 16 = omega arith in
     let d : n % 256 % 16 ≡ n % 16 = omega arith in
     subst (Wrote l k) (λ x. hex_digit (a x) ∷ hex_digit (b x) ∷ hex_digit (c x) ∷ hex_digit (d x) ∷ []) (wrote_more l m k _ _ f g)
-
-pub decimal_more : (l m n : Line) (k : ℕ) → 10 ≤ k → k < 2 ^ 64 → Wrote l m (decimal (k / 10)) → Wrote m n ((48 + k % 10) ∷ []) → Wrote l n (decimal k)
-decimal_more l m n k h b f g = rw (decimal_step k h b) (wrote_more l m n _ _ f g)
-
--- a number without its last digit
-pub decimal_front : (n : ℕ) → n < 2 ^ 64 → length (decimal (n / 10)) ≤ 19
-decimal_front n h = length-decimal-le 19 (n / 10) (omega arith) (omega arith) (omega arith)
-
-pub decimal_length : (n : ℕ) → 10 ≤ n → n < 2 ^ 64 → length (decimal n) ≡ length (decimal (n / 10)) + 1
-decimal_length n h k = ap length (decimal_step n h k) ∙ length_push (decimal (n / 10)) (48 + n % 10)
-
-pub decimal_short : (n : ℕ) → n < 2 ^ 64 → length (decimal n) ≤ 20
-decimal_short n h = length-decimal-le 20 n (omega arith) (omega arith) h

@@ -2,12 +2,13 @@
 // clauses say what is written where they answer Ok, and none says that they do, while `put` fails for want of room alone.
 #![tactic(auto)]
 
-ghost use Rattle.std.specs.Prelude.{◌≡◌, ◌+◌, ◌-◌, ◌*◌, ◌/◌, ◌%◌, ◌<◌, ◌≤◌, length, is_some, IfSome, if◌then◌else◌, Some, None, decimal, nat_le};
+ghost use Rattle.std.specs.Prelude.{◌≡◌, ◌+◌, ◌<◌, ◌≤◌, length, is_some, IfSome, if◌then◌else◌, Some, None, nat_le};
 ghost use Rattle.byte_rows.specs.Rows.{over};
 ghost use Rattle.text.specs.Pieces.{hex_digit, hex2, spelled, joined, widest, room, apart};
 ghost use Rattle.text.specs.Line.{HasRoom, Wrote};
 
 use byte_rows::overwrite;
+use itoa::Buffer;
 
 // What a line is made of.
 #[derive(Clone, Copy, PartialEq, Eq, Debug)]
@@ -17,7 +18,7 @@ pub enum Piece {
     Decimal(u64),
     // Two octal digits.
     Octal2(u8),
-    // One, two and four hexadecimal digits, in capitals.
+    // One, two and four hexadecimal digits, in capitals. One variant with a width would admit a width that its number does not fit.
     Hex1(u8),
     Hex2(u8),
     Hex4(u16),
@@ -76,7 +77,7 @@ struct Line<'a> {
 }
 
 impl Line<'_> {
-    #[tactic(auto, using(crate::proofs::Writing::hex4, crate::proofs::Writing::length_apart, crate::proofs::Writing::decimal_short))]
+    #[tactic(auto, using(crate::proofs::Writing::hex4, crate::proofs::Writing::length_apart))]
     fn put(&mut self, piece: Piece)
         requires { HasRoom self.old (widest piece) }
         ensures wrote { Wrote self.old self.new (spelled piece) }
@@ -85,7 +86,7 @@ impl Line<'_> {
         match piece {
             Piece::Byte(b) => self.bytes(&[b]),
             Piece::Word(word) => self.bytes(&word),
-            Piece::Decimal(n) => self.decimal(n),
+            Piece::Decimal(n) => self.bytes(Buffer::new().format(n).as_bytes()),
             Piece::Octal2(n) => self.bytes(&[b'0' + n / 8 % 8, b'0' + n % 8]),
             Piece::Hex1(n) => self.bytes(&[hex_digit(n % 16)]),
             Piece::Hex2(n) => self.bytes(&hex2(n)),
@@ -98,24 +99,13 @@ impl Line<'_> {
         }
     }
 
-    // The bytes fit, so that none is refused.
+    // The caller has room for the bytes, so `overwrite` refuses none.
     fn bytes(&mut self, bytes: &[u8])
         requires { HasRoom self.old (length bytes.now) }
         ensures { Wrote self.old self.new bytes.now }
     {
-        let _ = overwrite(self.out, self.at, bytes);
+        overwrite(self.out, self.at, bytes).unwrap();
         self.at += bytes.len();
-    }
-
-    #[tactic(auto, using(std::proofs::lemmas::Fmt::decimal_digit, crate::proofs::Writing::decimal_more, crate::proofs::Writing::decimal_length, crate::proofs::Writing::decimal_front))]
-    fn decimal(&mut self, n: u64)
-        requires { HasRoom self.old 20 }
-        ensures { Wrote self.old self.new (decimal n) }
-    {
-        if n >= 10 {
-            self.decimal(n / 10);
-        }
-        self.bytes(&[b'0' + (n % 10) as u8]);
     }
 
     // Each byte as two hexadecimal digits after a space.
