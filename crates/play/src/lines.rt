@@ -18,7 +18,7 @@ fn put_pieces(out: &mut [u8; BUFFER_SIZE], at: usize, pieces: &[Piece]) -> usize
     ensures place { result ≡ at + length (joined pieces.now) }
     ensures room { result ≤ at + room pieces.now }
 {
-    put(out, at, pieces).unwrap_or(at)
+    put(out, at, pieces).unwrap()
 }
 
 // The EN line, and eight lines of registers.
