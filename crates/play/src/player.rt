@@ -5,7 +5,7 @@ ghost use Rattle.memory.specs.Pile.{meaning_of};
 ghost use Rattle.tape.specs.Records.{entry_of, size_of};
 ghost use Rattle.play.specs.Work.{stage_of, cold};
 ghost use Rattle.play.specs.Lines.{lines_of};
-ghost use Rattle.play.specs.Play.{world_of, tape_of, next_of, entry_in, performed_of, handled_of, at_offset, play_of, over_of};
+ghost use Rattle.play.specs.Play.{world_of, tape_of, next_of, entry_in, handled_of, at_offset, play_of, over_of};
 
 use crate::fault::{Event, PlayFault, Played, Refusal};
 use crate::lines::{BUFFER_SIZE, put_lines};
