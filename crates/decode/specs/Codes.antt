@@ -41,7 +41,7 @@ count_of n = of4 n op.Increment op.Decrement op.Negate op.Complement
 
 -- TS, CL, OR, XR; only the last two have an operand.
 abbrev pub logic_of : ℕ → Form → Instruction
-logic_of n f = of4 n (instruction.Compute op.Test mode.None f) (instruction.Compute op.Clear mode.None f) (instruction.Compute op.Or mode.Register f) (instruction.Compute op.ExclusiveOr mode.Register f)
+logic_of n f = of4 n (instruction.Compute op.Test None f) (instruction.Compute op.Clear None f) (instruction.Compute op.Or (Some mode.Register) f) (instruction.Compute op.ExclusiveOr (Some mode.Register) f)
 
 abbrev pub control_of : ℕ → Control
 control_of n = of8 n control.Binary control.Decimal control.SaveStatus control.DecrementE control.IncrementE control.ClearE control.Return control.RestoreStatus
@@ -60,16 +60,16 @@ stack_of true i = mode.StackDown i
 
 -- LD and PO load; ST and PU store.
 abbrev pub transfer_of : Bool → Mode → Form → Instruction
-transfer_of true m f = instruction.Compute op.Load m f
+transfer_of true m f = instruction.Compute op.Load (Some m) f
 transfer_of false m f = instruction.Store m f
 
 -- Codes C0 to DF, by row and low three bits: CM, AD, SB in both forms, AN multi; JSB in the first two rows.
 abbrev pub sum_of : ℕ → ℕ → Option Instruction
 sum_of r k =
-    cond (nat_lt k 2) (Some (instruction.Compute op.Compare (sum_mode_of r) (form_of k)))
-    (cond (nat_lt k 4) (Some (instruction.Compute op.Add (sum_mode_of r) (form_of k)))
-    (cond (nat_lt k 6) (Some (instruction.Compute op.Subtract (sum_mode_of r) (form_of k)))
-    (cond (k == 7) (Some (instruction.Compute op.And (sum_mode_of r) Multi))
+    cond (nat_lt k 2) (Some (instruction.Compute op.Compare (Some (sum_mode_of r)) (form_of k)))
+    (cond (nat_lt k 4) (Some (instruction.Compute op.Add (Some (sum_mode_of r)) (form_of k)))
+    (cond (nat_lt k 6) (Some (instruction.Compute op.Subtract (Some (sum_mode_of r)) (form_of k)))
+    (cond (k == 7) (Some (instruction.Compute op.And (Some (sum_mode_of r)) Multi))
     (of4 r (Some (instruction.Call mode.IndexedDirect)) (Some (instruction.Call mode.LiteralDirect)) None None))))
 
 -- JMP JNO JOD JEV JNG JPS JNZ JZR JEN JEZ JNC JCY JLZ JLN JRZ JRN.
@@ -81,8 +81,8 @@ abbrev pub decoded : ℕ → Option Instruction
 decoded c =
     cond (nat_lt c 0x40) (Some (instruction.SetArp (source_of c)))
     (cond (nat_lt c 0x80) (Some (instruction.SetDrp (source_of (c - 0x40))))
-    (cond (nat_lt c 0x88) (Some (instruction.Compute (shift_of ((c - 0x80) / 2)) mode.None (form_of c)))
-    (cond (nat_lt c 0x90) (Some (instruction.Compute (count_of ((c - 0x88) / 2)) mode.None (form_of c)))
+    (cond (nat_lt c 0x88) (Some (instruction.Compute (shift_of ((c - 0x80) / 2)) None (form_of c)))
+    (cond (nat_lt c 0x90) (Some (instruction.Compute (count_of ((c - 0x88) / 2)) None (form_of c)))
     (cond (nat_lt c 0x98) (Some (logic_of ((c - 0x90) / 2) (form_of c)))
     (cond (nat_lt c 0xA0) (Some (instruction.Control (control_of (c - 0x98))))
     (cond (nat_lt c 0xC0) (Some (transfer_of (c / 2 % 2 == 0) (mode_of ((c - 0xA0) / 4)) (form_of c)))

@@ -5,7 +5,6 @@ use registers::Form;
 // Where the operand is, or where a store goes.
 #[derive(Clone, Copy, PartialEq, Eq, Debug)]
 pub enum Mode {
-    None,
     Register,
     RegisterDirect,
     Immediate,
@@ -61,12 +60,12 @@ pub enum Condition {
     RightNotZero,
 }
 
-// LD and PO compute a load; ST and PU store.
+// LD and PO compute a load; ST and PU store. Some computations have no operand; a store and a call always have one.
 #[derive(Clone, Copy, PartialEq, Eq, Debug)]
 pub enum Instruction {
     SetArp(Source),
     SetDrp(Source),
-    Compute(Operation, Mode, Form),
+    Compute(Operation, Option<Mode>, Form),
     Store(Mode, Form),
     Control(Control),
     Call(Mode),

@@ -57,13 +57,13 @@ fn count(n: u8) -> Operation
 fn logic(n: u8, form: Form) -> Instruction
     ensures { result ≡ logic_of n form }
 {
-    let (operation, mode) = match n {
-        0 => (Operation::Test, Mode::None),
-        1 => (Operation::Clear, Mode::None),
-        2 => (Operation::Or, Mode::Register),
-        _ => (Operation::ExclusiveOr, Mode::Register),
+    let (operation, operand) = match n {
+        0 => (Operation::Test, None),
+        1 => (Operation::Clear, None),
+        2 => (Operation::Or, Some(Mode::Register)),
+        _ => (Operation::ExclusiveOr, Some(Mode::Register)),
     };
-    Instruction::Compute(operation, mode, form)
+    Instruction::Compute(operation, operand, form)
 }
 
 fn control(n: u8) -> Control
@@ -124,7 +124,7 @@ fn transfer(loads: bool, mode: Mode, form: Form) -> Instruction
     ensures { result ≡ transfer_of loads mode form }
 {
     if loads {
-        Instruction::Compute(Operation::Load, mode, form)
+        Instruction::Compute(Operation::Load, Some(mode), form)
     } else {
         Instruction::Store(mode, form)
     }
@@ -134,12 +134,12 @@ fn transfer(loads: bool, mode: Mode, form: Form) -> Instruction
 fn sum(row: u8, low: u8) -> Option<Instruction>
     ensures { result ≡ sum_of row low }
 {
-    let mode = sum_mode(row);
+    let operand = Some(sum_mode(row));
     match low {
-        0 | 1 => Some(Instruction::Compute(Operation::Compare, mode, form(low))),
-        2 | 3 => Some(Instruction::Compute(Operation::Add, mode, form(low))),
-        4 | 5 => Some(Instruction::Compute(Operation::Subtract, mode, form(low))),
-        7 => Some(Instruction::Compute(Operation::And, mode, Form::Multi)),
+        0 | 1 => Some(Instruction::Compute(Operation::Compare, operand, form(low))),
+        2 | 3 => Some(Instruction::Compute(Operation::Add, operand, form(low))),
+        4 | 5 => Some(Instruction::Compute(Operation::Subtract, operand, form(low))),
+        7 => Some(Instruction::Compute(Operation::And, operand, Form::Multi)),
         _ if row == 0 => Some(Instruction::Call(Mode::IndexedDirect)),
         _ if row == 1 => Some(Instruction::Call(Mode::LiteralDirect)),
         _ => None,
@@ -177,8 +177,8 @@ pub fn decode(code: u8) -> Option<Instruction>
     Some(match code {
         0x00..=0x3F => Instruction::SetArp(source(code)),
         0x40..=0x7F => Instruction::SetDrp(source(code - 0x40)),
-        0x80..=0x87 => Instruction::Compute(shift((code - 0x80) / 2), Mode::None, form),
-        0x88..=0x8F => Instruction::Compute(count((code - 0x88) / 2), Mode::None, form),
+        0x80..=0x87 => Instruction::Compute(shift((code - 0x80) / 2), None, form),
+        0x88..=0x8F => Instruction::Compute(count((code - 0x88) / 2), None, form),
         0x90..=0x97 => logic((code - 0x90) / 2, form),
         0x98..=0x9F => Instruction::Control(control(code - 0x98)),
         0xA0..=0xBF => transfer(code / 2 % 2 == 0, mode((code - 0xA0) / 4), form),
