@@ -1,7 +1,7 @@
 // The instruction that a code stands for.
 #![tactic(auto)]
 
-ghost use Rattle.std.specs.Prelude.{◌≡◌, ◌<◌, not};
+ghost use Rattle.std.specs.Prelude.{◌≡◌, not};
 ghost use Rattle.decode.specs.Codes.{form_of, source_of, shift_of, count_of, logic_of, control_of, mode_of, sum_mode_of, stack_of, transfer_of, sum_of, condition_of, decoded};
 ghost use Rattle.decode.specs.OneToOne.{illegal, CodesAreOneToOne};
 
@@ -11,8 +11,9 @@ use alu::Operation;
 pub use instruction::{Condition, Control, Instruction, Mode, Source};
 pub use registers::Form;
 
-// The parts of a code are numbers, and become enums in these functions alone. They are no `From` impls of the enums, since
-// only a part of a code stands for one.
+// The parts of a code become enums in these functions alone: a single bit comes as a bool, a field of more bits as a number,
+// and for the form, which is the lowest bit, the code itself. They are no `From` impls of the enums, since only a part of a
+// code stands for one.
 fn form(code: u8) -> Form
     ensures { result ≡ form_of code }
 {
