@@ -25,14 +25,19 @@ impl Live {
     pub fn end(self) -> ReadOut
         ensures { result ≡ read_out_of (live_state self) }
     {
-        let cpu = self.cpu;
-        let registers = cpu.registers;
+        let Cpu {
+            registers,
+            arp,
+            drp,
+            status,
+            e,
+        } = self.cpu;
         ReadOut {
             registers,
-            arp: cpu.arp,
-            drp: cpu.drp,
-            status: cpu.status,
-            e: cpu.e,
+            arp,
+            drp,
+            status,
+            e,
         }
     }
 }
