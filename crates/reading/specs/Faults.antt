@@ -7,4 +7,4 @@ use Rattle.reading.specs.declared.fault.Fault.TheVariants.{Bus, Illegal, NotDeci
 abbrev pub fault_number : Fault → ℕ
 fault_number (Bus a r) = cause_number r.cause
 fault_number (Illegal c) = 8
-fault_number (NotDecimal i) = 9
+fault_number (NotDecimal n) = 9

@@ -2,6 +2,7 @@
 ghost use Rattle.std.specs.Prelude.{◌≡◌};
 ghost use Rattle.reading.specs.Faults.{fault_number};
 
+use alu::NotDecimal;
 use bus::BusRefusal;
 
 #[derive(Clone, Copy, PartialEq, Eq, Debug)]
@@ -9,8 +10,7 @@ pub enum Fault {
     // The bus refused at the address.
     Bus { address: u16, refusal: BusRefusal },
     Illegal { code: u8 },
-    // The index of a byte: data 0 to 7, operand 8 to 15.
-    NotDecimal { index: u8 },
+    NotDecimal(NotDecimal),
 }
 
 impl Fault {
@@ -21,7 +21,7 @@ impl Fault {
         match self {
             Fault::Bus { refusal, .. } => refusal.cause.number(),
             Fault::Illegal { .. } => 8,
-            Fault::NotDecimal { .. } => 9,
+            Fault::NotDecimal(_) => 9,
         }
     }
 }
