@@ -1,13 +1,31 @@
 -- A row filled byte by byte.
-use Rattle.std.proofs.Common.{◌≡◌, ℕ, ◌+◌, ◌<◌, List, [], ◌∷◌, ◌++◌, length, get_or, take, drop, set, Ok, Err, Option, Result, refl, ap, ◌∙◌, append_assoc, arith}
+use Rattle.std.proofs.Common.{◌≡◌, ℕ, suc, ◌+◌, ◌<◌, List, [], ◌∷◌, ◌++◌, length, get_or, take, drop, set, Ok, Err, Option, Result, refl, ap, sym, ◌∙◌, append_assoc, arith}
+use Rattle.std.proofs.Math.Path.{fun_ext}
 use Rattle.std.proofs.lemmas.List.{take_more_set, drop-set-lt, drop_more}
 use Rattle.bus.specs.Meaning.{Meaning}
 use Rattle.bus.specs.declared.refusal.BusRefusal.{BusRefusal}
 use Rattle.reading.specs.declared.fault.Fault.{Fault}
 use Rattle.reading.specs.declared.reads.BusReader.{BusReader}
 use Rattle.reading.specs.Sheets.{noted}
-use Rattle.reading.specs.Trees.{Tree, heard, onward, came, asked}
-use Rattle.reading.specs.Readings.{next, byte_tree, row_after, row_tree, ReadsBy, got_by, row_got}
+use Rattle.reading.specs.Trees.{Tree, done, stop, ask, heard, onward, came, asked, bind}
+use Rattle.reading.specs.Readings.{next, byte_tree, row_tree, ReadsBy, got_by, row_got}
+
+bind_bind : {A C D : Type 0} (t : Tree A) (f : A → Tree C) (g : C → Tree D) → bind (bind t f) g ≡ bind t (λ x. bind (f x) g)
+bind_bind (done x) f g = refl
+bind_bind (stop e) f g = refl
+bind_bind (ask a k) f g = ap (ask a) (fun_ext (λ b. bind_bind (k b) f g))
+
+bind_done : {A : Type 0} (t : Tree A) → bind t (λ x. done x) ≡ t
+bind_done (done x) = refl
+bind_done (stop e) = refl
+bind_done (ask a k) = ap (ask a) (fun_ext (λ b. bind_done (k b)))
+
+-- n bytes upward, after those that were read before
+abbrev pub row_after : List ℕ → ℕ → ℕ → Tree (List ℕ)
+row_after before n a = bind (row_tree n a) (λ bs. done (before ++ bs))
+
+row_after_more : (before : List ℕ) (n a : ℕ) → row_after before (suc n) a ≡ ask a (λ b. row_after (before ++ b ∷ []) n (next a))
+row_after_more before n a = ap (ask a) (fun_ext (λ b. bind_bind (row_tree n (next a)) (λ bs. done (b ∷ bs)) (λ bs. done (before ++ bs)) ∙ ap (bind (row_tree n (next a))) (fun_ext (λ bs. ap done (sym (append_assoc before (b ∷ []) bs))))))
 
 module _ (reads : ℕ → Result ℕ BusRefusal) (sheet : List ℕ) where
   -- what comes of a tree, and what is told after it
@@ -41,6 +59,9 @@ module _ {B : Type 0} (meaning : B → Meaning) (reader₀ : BusReader B) (old :
     pub bus : reader.bus.now ≡ reader₀.bus.now
     pub sheet : reader.sheet.now ≡ reader₀.sheet.now
 
+  pub filling_begins : Filling old 0 a₀ reader₀
+  filling_begins = record { left = ap (λ t. comes reads reader₀.sheet.now t reader₀.told) (bind_done (row_tree (length old) a₀)); got = refl; bus = refl; sheet = refl }
+
   module _ (xs : List ℕ) (i a : ℕ) (reader reader' : BusReader B) (h : i < length xs) (f : Filling xs i a reader) where
     abbrev rest : List ℕ
     rest = drop (i + 1) xs
@@ -49,7 +70,7 @@ module _ {B : Type 0} (meaning : B → Meaning) (reader₀ : BusReader B) (old :
     left_on r q =
         let left = rw (drop_more xs i 0 h) at f.left in
         let read = rw (f.bus, f.sheet) at q.read in
-        (λ j. goes_on reads reader₀.sheet.now (read.result j) (read.told j) (λ b. row_after (take i xs ++ b ∷ []) (length rest) (next a))) ∙ asks_by reads reader₀.sheet.now a _ _ (reads a) ∙ left
+        (λ j. goes_on reads reader₀.sheet.now (read.result j) (read.told j) (λ b. row_after (take i xs ++ b ∷ []) (length rest) (next a))) ∙ asks_by reads reader₀.sheet.now a _ _ (reads a) ∙ ap (λ t. comes reads reader₀.sheet.now t reader.told) (sym (row_after_more (take i xs) (length rest) a)) ∙ left
 
     pub filling_more : (b : ℕ) → ReadsBy meaning reader (byte_tree a) (Ok b) reader' → Filling (set xs i b) (i + 1) (next a) reader'
     filling_more b q =

@@ -1,12 +1,12 @@
 -- The readings that instructions are made of.
-use Rattle.std.specs.Prelude.{◌≡◌, ℕ, zero, suc, ◌+◌, ◌%◌, List, [], ◌∷◌, ◌++◌, Ok, Err, Option, Result}
+use Rattle.std.specs.Prelude.{◌≡◌, ℕ, zero, suc, ◌+◌, ◌%◌, List, [], ◌∷◌, Ok, Err, Option, Result}
 use Rattle.byte_rows.specs.Rows.{pair}
 use Rattle.bus.specs.Meaning.{Meaning}
 use Rattle.bus.specs.declared.refusal.BusRefusal.{BusRefusal}
 use Rattle.reading.specs.declared.fault.Fault.{Fault}
 use Rattle.reading.specs.declared.reads.BusReader.{BusReader}
 use Rattle.reading.specs.Sheets.{noted}
-use Rattle.reading.specs.Trees.{Tree, done, ask, came, asked}
+use Rattle.reading.specs.Trees.{Tree, done, ask, came, asked, bind}
 
 -- Addresses wrap: after 65,535 comes 0.
 abbrev pub next : ℕ → ℕ
@@ -18,14 +18,10 @@ byte_tree a = ask a (λ b. done b)
 abbrev pub pair_tree : ℕ → Tree ℕ
 pair_tree a = ask a (λ low. ask (next a) (λ high. done (pair low high)))
 
--- n bytes upward, after those that were read before.
-abbrev pub row_after : List ℕ → ℕ → ℕ → Tree (List ℕ)
-row_after before zero a = done before
-row_after before (suc n) a = ask a (λ b. row_after (before ++ b ∷ []) n (next a))
-
 -- n bytes upward.
 abbrev pub row_tree : ℕ → ℕ → Tree (List ℕ)
-row_tree n a = row_after [] n a
+row_tree zero a = done []
+row_tree (suc n) a = ask a (λ b. bind (row_tree n (next a)) (λ bs. done (b ∷ bs)))
 
 -- With `before` told before the tree is read, r comes of it and `after` is told after it.
 pub record Reads {A : Type 0} (reads : ℕ → Result ℕ BusRefusal) (sheet : List ℕ) (t : Tree A) (before : Option ℕ) (r : Result A Fault) (after : Option ℕ) : Type 0 where

@@ -59,6 +59,7 @@ impl<'a, B: Bus> BusReader<'a, B> {
     }
 
     // Fills the row with the bytes from the address on, upward.
+    #[tactic(auto, using(crate::proofs::Filling::filling_begins))]
     pub fn row(&mut self, address: u16, row: &mut [u8]) -> Result<(), Fault>
         ensures read { ReadsBy B.Bus.meaning self.old (row_tree (length row.old) address) (row_with row.new result) self.new }
         ensures got { row.new ≡ row_got (B.Bus.meaning self.old.bus.now).reads address row.old }
