@@ -1,5 +1,5 @@
 -- A row filled byte by byte.
-use Rattle.std.proofs.Common.{◌≡◌, ℕ, suc, ◌+◌, ◌<◌, List, [], ◌∷◌, ◌++◌, length, get_or, take, drop, set, Ok, Err, Option, Result, refl, ap, sym, ◌∙◌, append_assoc, arith}
+use Rattle.std.proofs.Common.{◌≡◌, ℕ, suc, ◌+◌, ◌%◌, ◌<◌, List, [], ◌∷◌, ◌++◌, length, get_or, take, drop, set, Ok, Err, Option, Result, refl, ap, sym, ◌∙◌, append_assoc, arith}
 use Rattle.std.proofs.Math.Path.{fun_ext}
 use Rattle.std.proofs.lemmas.List.{take_more_set, drop-set-lt, drop_more}
 use Rattle.bus.specs.Meaning.{Meaning}
@@ -10,6 +10,7 @@ use Rattle.reading.specs.Sheets.{noted}
 use Rattle.reading.specs.Trees.{Tree, done, stop, ask, heard, onward, came, asked, bind}
 use Rattle.reading.specs.Readings.{next, byte_tree, row_tree, ReadsBy, got_by, row_got}
 
+-- two binds in a row are one
 bind_bind : {A C D : Type 0} (t : Tree A) (f : A → Tree C) (g : C → Tree D) → bind (bind t f) g ≡ bind t (λ x. bind (f x) g)
 bind_bind (done x) f g = refl
 bind_bind (stop e) f g = refl
@@ -26,6 +27,13 @@ row_after before n a = bind (row_tree n a) (λ bs. done (before ++ bs))
 
 row_after_more : (before : List ℕ) (n a : ℕ) → row_after before (suc n) a ≡ ask a (λ b. row_after (before ++ b ∷ []) n (next a))
 row_after_more before n a = ap (ask a) (fun_ext (λ b. bind_bind (row_tree n (next a)) (λ bs. done (b ∷ bs)) (λ bs. done (before ++ bs)) ∙ ap (bind (row_tree n (next a))) (fun_ext (λ bs. ap done (sym (append_assoc before (b ∷ []) bs))))))
+
+-- the address of byte i of a row
+abbrev pub place : ℕ → ℕ → ℕ
+place a i = (a + i % 65536) % 65536
+
+place_more : (a i : ℕ) → place a (i + 1) ≡ next (place a i)
+place_more a i = omega arith
 
 module _ (reads : ℕ → Result ℕ BusRefusal) (sheet : List ℕ) where
   -- what comes of a tree, and what is told after it
@@ -53,16 +61,26 @@ module _ {B : Type 0} (meaning : B → Meaning) (reader₀ : BusReader B) (old :
   whole = comes reads reader₀.sheet.now (row_tree (length old) a₀) reader₀.told
 
   -- the first i bytes of the row were read, and what is left to read comes to what there was
-  pub record Filling (xs : List ℕ) (i a : ℕ) (reader : BusReader B) : Type 0 where
-    pub left : comes reads reader₀.sheet.now (row_after (take i xs) (length (drop i xs)) a) reader.told ≡ whole
-    pub got : take i xs ++ row_got reads a (drop i xs) ≡ row_got reads a₀ old
+  pub record Filling (xs : List ℕ) (i : ℕ) (reader : BusReader B) : Type 0 where
+    pub left : comes reads reader₀.sheet.now (row_after (take i xs) (length (drop i xs)) (place a₀ i)) reader.told ≡ whole
+    pub got : take i xs ++ row_got reads (place a₀ i) (drop i xs) ≡ row_got reads a₀ old
     pub bus : reader.bus.now ≡ reader₀.bus.now
     pub sheet : reader.sheet.now ≡ reader₀.sheet.now
 
-  pub filling_begins : Filling old 0 a₀ reader₀
-  filling_begins = record { left = ap (λ t. comes reads reader₀.sheet.now t reader₀.told) (bind_done (row_tree (length old) a₀)); got = refl; bus = refl; sheet = refl }
+  pub filling_begins : a₀ < 65536 → Filling old 0 reader₀
+  filling_begins h =
+      let first : place a₀ 0 ≡ a₀ = omega arith in
+      record {
+        left = rw first (ap (λ t. comes reads reader₀.sheet.now t reader₀.told) (bind_done (row_tree (length old) a₀)));
+        got = rw first refl;
+        bus = refl;
+        sheet = refl;
+      }
 
-  module _ (xs : List ℕ) (i a : ℕ) (reader reader' : BusReader B) (h : i < length xs) (f : Filling xs i a reader) where
+  module _ (xs : List ℕ) (i : ℕ) (reader reader' : BusReader B) (h : i < length xs) (f : Filling xs i reader) where
+    abbrev a : ℕ
+    a = place a₀ i
+
     abbrev rest : List ℕ
     rest = drop (i + 1) xs
 
@@ -72,7 +90,7 @@ module _ {B : Type 0} (meaning : B → Meaning) (reader₀ : BusReader B) (old :
         let read = rw (f.bus, f.sheet) at q.read in
         (λ j. goes_on reads reader₀.sheet.now (read.result j) (read.told j) (λ b. row_after (take i xs ++ b ∷ []) (length rest) (next a))) ∙ asks_by reads reader₀.sheet.now a _ _ (reads a) ∙ ap (λ t. comes reads reader₀.sheet.now t reader.told) (sym (row_after_more (take i xs) (length rest) a)) ∙ left
 
-    pub filling_more : (b : ℕ) → ReadsBy meaning reader (byte_tree a) (Ok b) reader' → Filling (set xs i b) (i + 1) (next a) reader'
+    pub filling_more : (b : ℕ) → ReadsBy meaning reader (byte_tree a) (Ok b) reader' → Filling (set xs i b) (i + 1) reader'
     filling_more b q =
         let got = rw (drop_more xs i 0 h) at f.got in
         let read = rw (f.bus, f.sheet) at q.read in
@@ -81,8 +99,8 @@ module _ {B : Type 0} (meaning : B → Meaning) (reader₀ : BusReader B) (old :
         let t = take_more_set xs i b h in
         let d = drop-set-lt (i + 1) xs i b k in
         record {
-          left = rw (t, d) (left_on (Ok b) q);
-          got = rw (t, d) (append_assoc (take i xs) (b ∷ []) more ∙ ap (λ z. take i xs ++ z) (ap (λ r. got_by r (get_or xs i 0) rest more) read.result ∙ gets_by a _ _ _ (reads a)) ∙ got);
+          left = rw (t, d, place_more a₀ i) (left_on (Ok b) q);
+          got = rw (t, d, place_more a₀ i) (append_assoc (take i xs) (b ∷ []) more ∙ ap (λ z. take i xs ++ z) (ap (λ r. got_by r (get_or xs i 0) rest more) read.result ∙ gets_by a _ _ _ (reads a)) ∙ got);
           bus = q.bus ∙ f.bus;
           sheet = q.sheet ∙ f.sheet;
         }

@@ -58,17 +58,14 @@ impl<'a, B: Bus> BusReader<'a, B> {
         Ok(u16::from_le_bytes([low, high]))
     }
 
-    // Fills the row with the bytes from the address on, upward.
+    // Fills the row with the bytes from the address on, upward; here too 0 comes after 65,535.
     #[tactic(auto, using(crate::proofs::Filling::filling_begins))]
     pub fn row(&mut self, address: u16, row: &mut [u8]) -> Result<(), Fault>
         ensures read { ReadsBy B.Bus.meaning self.old (row_tree (length row.old) address) (row_with row.new result) self.new }
         ensures got { row.new ≡ row_got (B.Bus.meaning self.old.bus.now).reads address row.old }
     {
-        // The address goes on by hand: a range of addresses would end at 65,535, and a row of any length may wrap.
-        let mut at = address;
-        for byte in row.iter_mut() {
-            *byte = self.byte(at)?;
-            at = at.wrapping_add(1);
+        for (i, byte) in row.iter_mut().enumerate() {
+            *byte = self.byte(address.wrapping_add((i % 65536) as u16))?;
         }
         Ok(())
     }
