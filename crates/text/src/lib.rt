@@ -4,7 +4,7 @@
 
 ghost use Rattle.std.specs.Prelude.{◌≡◌, ◌+◌, ◌<◌, ◌≤◌, length, is_some, IfSome, if◌then◌else◌, Some, None, nat_le};
 ghost use Rattle.byte_rows.specs.Rows.{over};
-ghost use Rattle.text.specs.Pieces.{hex_digit, hex2, spelled, joined, widest, room, apart};
+ghost use Rattle.text.specs.Pieces.{hex_digit, hex2, spelled, joined, widest, room, one_apart};
 ghost use Rattle.text.specs.Line.{HasRoom, Wrote};
 
 use byte_rows::overwrite;
@@ -77,7 +77,7 @@ struct Line<'a> {
 }
 
 impl Line<'_> {
-    #[tactic(auto, using(crate::proofs::Writing::hex4, crate::proofs::Writing::length_apart))]
+    #[tactic(auto, using(crate::proofs::Writing::hex4))]
     fn put(&mut self, piece: Piece)
         requires { HasRoom self.old (widest piece) }
         ensures wrote { Wrote self.old self.new (spelled piece) }
@@ -95,7 +95,7 @@ impl Line<'_> {
                 self.bytes(&hex2(high));
                 self.bytes(&hex2(low));
             }
-            Piece::Row(row) => self.row(row),
+            Piece::Row(row) => self.bytes(row.map(one_apart).as_flattened()),
         }
     }
 
@@ -107,18 +107,14 @@ impl Line<'_> {
         overwrite(self.out, self.at, bytes).unwrap();
         self.at += bytes.len();
     }
+}
 
-    // Each byte as two hexadecimal digits after a space.
-    #[tactic(auto, using(crate::proofs::Writing::wrote_none, crate::proofs::Writing::apart_push, crate::proofs::Writing::apart_front))]
-    fn row(&mut self, row: [u8; 8])
-        requires { HasRoom self.old 24 }
-        ensures { Wrote self.old self.new (apart row) }
-    {
-        for b in row {
-            let [high, low] = hex2(b);
-            self.bytes(&[b' ', high, low]);
-        }
-    }
+// A space and two hexadecimal digits.
+fn one_apart(n: u8) -> [u8; 3]
+    ensures { result ≡ one_apart n }
+{
+    let [high, low] = hex2(n);
+    [b' ', high, low]
 }
 
 fn hex2(n: u8) -> [u8; 2]
