@@ -29,6 +29,7 @@ fn overflows(op: Link, a: bool, b: bool, outcome: bool) -> bool
 }
 
 // The chain in the counting of the mode, with no carry in. In decimal nothing overflows.
+// The mode is the status bit DCM as it stands; an enum would only be made of it at each call.
 pub fn combine(decimal: bool, op: Link, bytes: &mut [u8], operand: &[u8]) -> Carried
     ensures row { bytes.new ≡ row_of (system_of decimal) op bytes.old operand.now false }
     ensures carry { result.carry ≡ carry_of (system_of decimal) op bytes.old operand.now false }
