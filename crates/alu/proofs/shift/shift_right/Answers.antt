@@ -3,9 +3,4 @@ use Rattle.std.proofs.lemmas.Grind.{common_steps}
 use Rattle.alu.proofs.shift.shift_right.Goals as goal
 
 pub loop-i-preserved : goal.loop-i-preserved
-loop-i-preserved c = record {
-  below = omega arith;
-  rest = grind (arith, common_steps);
-  row = grind (arith, common_steps);
-  out = grind (arith, common_steps);
-}
+loop-i-preserved c = grind (arith, common_steps)
