@@ -1,5 +1,6 @@
 -- What each operation leaves of a row: the row, the status and E; or the index of a byte that is not decimal.
 use Rattle.std.specs.Prelude.{ℕ, ◌+◌, ◌%◌, Bool, true, false, cond, not, List, [], ◌∷◌, Option, Some, None, Ok, Err, Result, ◌==◌, nat_le}
+use Rattle.std.specs.Result.{result_and}
 use Rattle.registers.specs.Bits.{bit_of}
 use Rattle.counting.specs.declared.Link.{Link}
 use Rattle.counting.specs.declared.Link.TheVariants as link
@@ -93,15 +94,11 @@ abbrev pub digits_of : Bool → ℕ → List ℕ → Result (Unit {0}) NotDecima
 digits_of false from row = Ok tt
 digits_of true from row = index_from from (first_refused decimal row)
 
-abbrev pub after : {X : Type 0} → Result (Unit {0}) NotDecimal → Result X NotDecimal → Result X NotDecimal
-after (Ok u) r = r
-after (Err n) r = Err n
-
 -- Data before operand.
 abbrev pub both_digits : Bool → List ℕ → List ℕ → Result (Unit {0}) NotDecimal
-both_digits d xs ys = after (digits_of d 0 xs) (digits_of d 8 ys)
+both_digits d xs ys = result_and (digits_of d 0 xs) (digits_of d 8 ys)
 
--- IC, DC, TC and NC check the data's digits; CM, AD and SB check the operand's too.
+-- IC, DC, TC and NC check the data's digits; CM, AD and SB check the operand's too; the others take any bytes.
 abbrev pub checked : Operation → Bool → List ℕ → List ℕ → Result (Unit {0}) NotDecimal
 checked Increment d xs ys = digits_of d 0 xs
 checked Decrement d xs ys = digits_of d 0 xs
@@ -110,7 +107,16 @@ checked Complement d xs ys = digits_of d 0 xs
 checked Compare d xs ys = both_digits d xs ys
 checked Add d xs ys = both_digits d xs ys
 checked Subtract d xs ys = both_digits d xs ys
-checked _ d xs ys = Ok tt
+checked ExtendedLeft d xs ys = Ok tt
+checked ExtendedRight d xs ys = Ok tt
+checked LogicalLeft d xs ys = Ok tt
+checked LogicalRight d xs ys = Ok tt
+checked Test d xs ys = Ok tt
+checked Clear d xs ys = Ok tt
+checked Or d xs ys = Ok tt
+checked ExclusiveOr d xs ys = Ok tt
+checked And d xs ys = Ok tt
+checked Load d xs ys = Ok tt
 
 -- EL, ER, LL, LR, IC, DC, TC, NC, TS, CL, OR, XR, AN, LD, CM, AD, SB, in this order.
 abbrev pub worked : Operation → Flags → List ℕ → List ℕ → Done
@@ -134,7 +140,7 @@ worked Subtract f xs ys = lessened link.Subtract f xs ys
 
 -- An operation is refused for its digits, or works.
 abbrev pub operated : Operation → Flags → List ℕ → List ℕ → Result Done NotDecimal
-operated o f xs ys = after (checked o f.status.dcm xs ys) (Ok (worked o f xs ys))
+operated o f xs ys = result_and (checked o f.status.dcm xs ys) (Ok (worked o f xs ys))
 
 -- A row with what was told of it.
 abbrev pub left : List ℕ → Result Flags NotDecimal → Result Done NotDecimal

@@ -1,5 +1,5 @@
 // The processor's operations on a row and an operand.
-ghost use Rattle.std.specs.Prelude.{◌≡◌, ◌≤◌, false, []};
+ghost use Rattle.std.specs.Prelude.{◌≡◌, false, []};
 ghost use Rattle.counting.specs.Chain.{row_of};
 ghost use Rattle.counting.specs.declared.Link.TheVariants.{Complement as NineLess};
 ghost use Rattle.alu.specs.Logic.{joined_row};
@@ -176,7 +176,16 @@ impl Flags {
                     index: 8 + n.index % 8,
                 })
             }
-            _ => Ok(()),
+            Operation::ExtendedLeft
+            | Operation::ExtendedRight
+            | Operation::LogicalLeft
+            | Operation::LogicalRight
+            | Operation::Test
+            | Operation::Clear
+            | Operation::Or
+            | Operation::ExclusiveOr
+            | Operation::And
+            | Operation::Load => Ok(()),
         }
     }
 
