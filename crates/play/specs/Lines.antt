@@ -1,6 +1,7 @@
 -- What is printed of a record. Each line ends with byte 10.
-use Rattle.std.specs.Prelude.{ℕ, ◌+◌, ◌*◌, List, [], ◌∷◌, ◌++◌, Ok, Err, codes, Result, slice_range}
+use Rattle.std.specs.Prelude.{◌≡◌, ◌≤◌, ℕ, ◌+◌, ◌*◌, List, [], ◌∷◌, ◌++◌, Ok, Err, codes, length, Result, slice_range}
 use Rattle.std.specs.List.{flat_map, range_with_len}
+use Rattle.byte_rows.specs.Rows.{over}
 use Rattle.registers.specs.Bits.{status_byte}
 use Rattle.text.specs.declared.Piece.{Piece}
 use Rattle.text.specs.declared.Piece.TheVariants.{Byte, Word, Decimal, Octal2, Hex1, Hex2, Row}
@@ -46,3 +47,9 @@ lines_of (Ok Loaded) = joined []
 lines_of (Ok Began) = joined []
 lines_of (Ok (Ended o)) = joined (end_lines o)
 lines_of (Err f) = joined (refused_lines f.refusal f)
+
+-- These bytes were written at the front of a line buffer, and n says how many they are.
+pub record Lined (old new : List ℕ) (n : ℕ) (bytes : List ℕ) : Type 0 where
+  pub row : new ≡ over old 0 bytes
+  pub size : n ≡ length bytes
+  pub room : n ≤ 512

@@ -2,7 +2,7 @@
 ghost use Rattle.std.specs.Prelude.{◌≡◌, ◌+◌, ◌≤◌, length};
 ghost use Rattle.byte_rows.specs.Rows.{over};
 ghost use Rattle.text.specs.Pieces.{joined, room};
-ghost use Rattle.play.specs.Lines.{end_lines, no_line, lines_of};
+ghost use Rattle.play.specs.Lines.{Lined, end_lines, no_line, lines_of};
 
 use crate::fault::{Event, PlayFault, Refusal};
 use engine::ReadOut;
@@ -23,9 +23,7 @@ fn put_pieces(out: &mut [u8; BUFFER_SIZE], at: usize, pieces: &[Piece]) -> usize
 
 // The EN line, and eight lines of registers.
 fn put_end(out: &mut [u8; BUFFER_SIZE], read_out: ReadOut) -> usize
-    ensures after { out.new ≡ over out.old 0 (joined (end_lines read_out)) }
-    ensures size { result ≡ length (joined (end_lines read_out)) }
-    ensures room { result ≤ 512 }
+    ensures { Lined out.old out.new result (joined (end_lines read_out)) }
 {
     let space = Piece::Byte(b' ');
     let newline = Piece::Byte(b'\n');
@@ -58,9 +56,7 @@ fn put_end(out: &mut [u8; BUFFER_SIZE], read_out: ReadOut) -> usize
 
 // The number and the offset of a refused record.
 fn put_no(out: &mut [u8; BUFFER_SIZE], fault: PlayFault) -> usize
-    ensures after { out.new ≡ over out.old 0 (joined (no_line fault)) }
-    ensures size { result ≡ length (joined (no_line fault)) }
-    ensures room { result ≤ 512 }
+    ensures { Lined out.old out.new result (joined (no_line fault)) }
 {
     let number = Piece::Decimal(u64::from(fault.refusal.number()));
     let offset = Piece::Decimal(fault.offset as u64);
@@ -80,9 +76,7 @@ fn put_no(out: &mut [u8; BUFFER_SIZE], fault: PlayFault) -> usize
 // Writes the lines of what came of a record at the front of the buffer, and says how many bytes they take.
 #[tactic(auto, using(byte_rows::proofs::Writing::over_none, crate::proofs::Playing::joined_none))]
 pub fn put_lines(out: &mut [u8; BUFFER_SIZE], outcome: Result<Event, PlayFault>) -> usize
-    ensures after { out.new ≡ over out.old 0 (lines_of outcome) }
-    ensures size { result ≡ length (lines_of outcome) }
-    ensures room { result ≤ 512 }
+    ensures { Lined out.old out.new result (lines_of outcome) }
 {
     match outcome {
         Ok(Event::Loaded | Event::Began) => 0,

@@ -10,8 +10,8 @@ loop-n-preserved c =
     let h : c.loop-n.n < 8 = omega arith in
     (line_more _ _ _ _ _ (end_line c.args.read_out) c.args.read_out.registers c.loop-n.n h c.loop-n.invariant.0 (record { row = cc; end = cc }), omega arith)
 
-pub returns-clause-after : goal.returns-clause-after
-returns-clause-after c = let e : c.loop-n.n ≡ 8 = omega arith in (rw e at c.loop-n.invariant.0).row
-
-pub returns-clause-size : goal.returns-clause-size
-returns-clause-size c = let e : c.loop-n.n ≡ 8 = omega arith in rw zero-add at (rw e at c.loop-n.invariant.0).end
+pub returns : goal.returns
+returns c =
+    let e : c.loop-n.n ≡ 8 = omega arith in
+    let p = rw e at c.loop-n.invariant.0 in
+    record { row = p.row; size = rw zero-add at p.end; room = omega arith }

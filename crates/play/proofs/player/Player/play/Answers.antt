@@ -16,7 +16,7 @@ returns-clause-lines c =
     let chunk = c.in-Some.ensures.cases in
     let put = c.put_lines-wrote.ensures in
     let lines = lines_of c.handle_at_place-outcome.result in
-    ap (λ w. w ++ drop 512 c.args.out.now) (put.after ∙ ap (λ t. over t 0 lines) chunk.same) ∙ over_chunk c.args.out.now lines 512 (omega arith) chunk.enough
+    ap (λ w. w ++ drop 512 c.args.out.now) (put.row ∙ ap (λ t. over t 0 lines) chunk.same) ∙ over_chunk c.args.out.now lines 512 (omega arith) chunk.enough
 
 -- by `cc`, so that a wrong number of bytes is refused for this and not at a limit
 pub returns-clause-wrote : goal.returns-clause-wrote
