@@ -2,12 +2,12 @@
 #![tactic(auto)]
 
 use std::io::{Read, Write};
-use transcript::transcribe;
+use transcript::{TAPE_SIZE, transcribe};
 
 fn main(rt: HostRuntime) -> anyhow::Result<()> {
-    // What comes after the first 16,384 bytes is not played, so it is not read either.
+    // What comes after these bytes is not played, so it is not read either.
     let mut tape = Vec::new(rt.alloc());
-    rt.stdin().take(16384).read_to_end(&mut tape)?;
+    rt.stdin().take(TAPE_SIZE as u64).read_to_end(&mut tape)?;
     let text = transcribe(rt.alloc(), &tape)?;
     rt.stdout().write_all(&text)?;
     Ok(())

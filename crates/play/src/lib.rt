@@ -7,5 +7,6 @@ mod phase;
 mod player;
 
 pub use fault::{Event, PlayFault, Played, Refusal};
+pub use lines::BUFFER_SIZE;
 pub use phase::Phase;
-pub use player::Player;
+pub use player::{Player, SHEET_SIZE};

@@ -15,7 +15,7 @@ use memory::Memory;
 use tape::{Reader, Record};
 
 // The size of a sheet.
-const SHEET_SIZE: usize = 8192;
+pub const SHEET_SIZE: usize = 8192;
 
 #[derive(Drop)]
 pub struct Player<'a> {

@@ -9,6 +9,9 @@ mod session;
 use session::Session;
 use std::alloc::{AllocError, Global};
 
+// As much of a tape is played.
+pub const TAPE_SIZE: usize = 16384;
+
 // The tape's first 16,384 bytes are played, from a cold exchange with a zero sheet on zero memory; this is all that
 // they print. Fails for want of memory alone.
 #[tactic(auto, using(crate::proofs::Progress::every_record_is_played))]
@@ -16,7 +19,7 @@ pub fn transcribe(heap: Global, tape: &[u8]) -> Result<Vec<u8>, AllocError>
     ensures made { IfOk result (λ v. v.items ≡ transcript_of (take 16384 tape.now)) }
     ensures to_the_end { EveryRecordIsPlayed }
 {
-    let size = tape.len().min(16384);
+    let size = tape.len().min(TAPE_SIZE);
     let mut session = Session::new(heap, &tape[..size])?;
     while !session.player.is_over() {
         session.play_record()?;

@@ -5,15 +5,15 @@ ghost use Rattle.transcript.specs.Printed.{start};
 ghost use Rattle.transcript.specs.Sessions.{tape_in, world_in, next_in};
 
 use memory::Memory;
-use play::Player;
+use play::{BUFFER_SIZE, Player, SHEET_SIZE};
 use std::alloc::{AllocError, Global};
 
 #[derive(Drop)]
 pub(crate) struct Session<'a> {
     pub player: Player<'a>,
     memory: Memory,
-    sheet: [u8; 8192],
-    lines: [u8; 512],
+    sheet: [u8; SHEET_SIZE],
+    lines: [u8; BUFFER_SIZE],
     // The lines of the records that were played.
     pub text: Vec<u8>,
 }
@@ -28,8 +28,8 @@ impl<'a> Session<'a> {
         Ok(Session {
             player: Player::new(tape),
             memory: Memory::new(heap)?,
-            sheet: [0; 8192],
-            lines: [0; 512],
+            sheet: [0; SHEET_SIZE],
+            lines: [0; BUFFER_SIZE],
             text: Vec::new(heap),
         })
     }
