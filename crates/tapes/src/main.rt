@@ -2,17 +2,21 @@
 #![tactic(auto)]
 
 use memory::Memory;
-use play::{Played, Player};
+use play::{BUFFER_SIZE, Played, Player, SHEET_SIZE};
 use std::io::Write;
 use transcript::transcribe;
 
 // What a tape shows, and the tape.
 type Case = (&'static str, &'static [u8]);
 
+const UNKNOWN_MARK: Case = ("an unknown mark", b"XY");
+
+const LOAD_OF_NO_BYTES: Case = ("a load of no bytes", b"LD\x00\x01\x00");
+
 const CASES: [Case; 18] = [
     ("an empty tape", b""),
     ("half a mark", b"L"),
-    ("an unknown mark", b"XY"),
+    UNKNOWN_MARK,
     ("an unknown mark after GO", b"GO\x00\x01\x00\x04XY"),
     ("EN before GO", b"EN"),
     ("EN after a load", b"LD\x00\x01\x01\xFFEN"),
@@ -26,7 +30,7 @@ const CASES: [Case; 18] = [
     ("a load short of one byte", b"LD\x00\x01\x02\xFF"),
     ("GO without its return pointer", b"GO\x00\x01\x00"),
     ("no EN", b"GO\x00\x01\x00\x04"),
-    ("a load of no bytes", b"LD\x00\x01\x00"),
+    LOAD_OF_NO_BYTES,
     (
         "a load of the last byte of RAM, then one past it",
         b"LD\xFF\x7F\x01\xAALD\xFF\x7F\x02\xAA\xBB",
@@ -37,19 +41,34 @@ const CASES: [Case; 18] = [
 ];
 
 // What the sizes of a sheet and of a line buffer show, and the sizes.
-const SIZES: [(&str, usize, usize); 4] = [
-    (
-        "a buffer of 511 bytes, and a sheet of the wrong size: the buffer comes first",
-        0,
-        511,
-    ),
-    (
-        "a sheet of 8,191 bytes, and an unknown mark: the sheet comes first",
-        8191,
-        512,
-    ),
-    ("a sheet of 8,193 bytes", 8193, 512),
-    ("a sheet of 8,192 bytes, and an unknown mark", 8192, 512),
+#[derive(Clone, Copy)]
+struct Lent {
+    name: &'static str,
+    sheet: usize,
+    buffer: usize,
+}
+
+const LENT: [Lent; 4] = [
+    Lent {
+        name: "a buffer of 511 bytes, and a sheet of the wrong size: the buffer comes first",
+        sheet: 0,
+        buffer: BUFFER_SIZE - 1,
+    },
+    Lent {
+        name: "a sheet of 8,191 bytes, and an unknown mark: the sheet comes first",
+        sheet: SHEET_SIZE - 1,
+        buffer: BUFFER_SIZE,
+    },
+    Lent {
+        name: "a sheet of 8,193 bytes",
+        sheet: SHEET_SIZE + 1,
+        buffer: BUFFER_SIZE,
+    },
+    Lent {
+        name: "a sheet of 8,192 bytes, and an unknown mark",
+        sheet: SHEET_SIZE,
+        buffer: BUFFER_SIZE,
+    },
 ];
 
 fn show(rt: &HostRuntime, (name, tape): Case) -> anyhow::Result<()> {
@@ -60,16 +79,11 @@ fn show(rt: &HostRuntime, (name, tape): Case) -> anyhow::Result<()> {
 }
 
 // One record, with a sheet and a line buffer of these sizes: how many bytes it wrote, its lines, and its number.
-fn show_lent(
-    rt: &HostRuntime,
-    name: &str,
-    sheet_size: usize,
-    buffer_size: usize,
-) -> anyhow::Result<()> {
-    println!(rt; "# {name}")?;
+fn show_lent(rt: &HostRuntime, lent: Lent) -> anyhow::Result<()> {
+    println!(rt; "# {}", lent.name)?;
     let mut memory = Memory::new(rt.alloc())?;
-    let mut sheet = vec![in rt.alloc(); 0u8; sheet_size]?;
-    let mut buffer = vec![in rt.alloc(); b'.'; buffer_size]?;
+    let mut sheet = vec![in rt.alloc(); 0u8; lent.sheet]?;
+    let mut buffer = vec![in rt.alloc(); b'.'; lent.buffer]?;
     let mut player = Player::new(b"XY");
     let Played { wrote, outcome } = player.play(&mut memory, &mut sheet, &mut buffer);
     match outcome {
@@ -89,10 +103,10 @@ fn show_lent(
 fn show_again(rt: &HostRuntime, (name, tape): Case) -> anyhow::Result<()> {
     println!(rt; "# {name}, played twice")?;
     let mut memory = Memory::new(rt.alloc())?;
-    let mut sheet = vec![in rt.alloc(); 0u8; 8192]?;
+    let mut sheet = vec![in rt.alloc(); 0u8; SHEET_SIZE]?;
     let mut player = Player::new(tape);
     for _ in 0..2 {
-        let mut buffer = [0u8; 512];
+        let mut buffer = [0u8; BUFFER_SIZE];
         let wrote = player.play(&mut memory, &mut sheet, &mut buffer).wrote;
         rt.stdout().write_all(&buffer[..wrote])?;
     }
@@ -103,9 +117,9 @@ fn main(rt: HostRuntime) -> anyhow::Result<()> {
     for case in CASES {
         show(&rt, case)?;
     }
-    for (name, sheet_size, buffer_size) in SIZES {
-        show_lent(&rt, name, sheet_size, buffer_size)?;
+    for lent in LENT {
+        show_lent(&rt, lent)?;
     }
-    show_again(&rt, CASES[2])?;
-    show_again(&rt, CASES[13])
+    show_again(&rt, UNKNOWN_MARK)?;
+    show_again(&rt, LOAD_OF_NO_BYTES)
 }
