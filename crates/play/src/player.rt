@@ -5,7 +5,7 @@ ghost use Rattle.memory.specs.Pile.{meaning_of};
 ghost use Rattle.tape.specs.Records.{entry_of, size_of};
 ghost use Rattle.play.specs.Work.{stage_of, cold};
 ghost use Rattle.play.specs.Lines.{lines_of};
-ghost use Rattle.play.specs.Play.{world_of, tape_of, next_of, entry_in, handled_of, at_offset, play_of, over_of};
+ghost use Rattle.play.specs.Play.{world_of, tape_of, next_of, entry_in, handled_of, play_of, over_of};
 
 use crate::fault::{Event, PlayFault, Played, Refusal};
 use crate::lines::{BUFFER_SIZE, put_lines};
@@ -73,17 +73,6 @@ impl<'a> Player<'a> {
         Ok(event)
     }
 
-    // The same, with the offset of a refused record.
-    fn handle_at_place(&mut self, memory: &mut Memory, sheet: &[u8]) -> Result<Event, PlayFault>
-        ensures outcome { result ≡ at_offset self.old.reader.place (handled_of (tape_of self.old) (world_of self.old sheet.now (meaning_of memory.old))).outcome }
-        ensures after { world_of self.new sheet.now (meaning_of memory.new) ≡ (handled_of (tape_of self.old) (world_of self.old sheet.now (meaning_of memory.old))).after }
-        ensures tape { tape_of self.new ≡ tape_of self.old }
-    {
-        let offset = self.reader.place;
-        self.handle(memory, sheet)
-            .map_err(|refusal| PlayFault { offset, refusal })
-    }
-
     // Plays one record, and writes its lines at the front of the buffer; the rest of the buffer stays.
     #[tactic(auto, using(byte_rows::proofs::Writing::over_none, crate::proofs::Playing::joined_none))]
     pub fn play(&mut self, memory: &mut Memory, sheet: &mut [u8], out: &mut [u8]) -> Played
@@ -100,7 +89,9 @@ impl<'a> Player<'a> {
             let outcome = Err(PlayFault { offset, refusal });
             return Played { wrote: 0, outcome };
         };
-        let outcome = self.handle_at_place(memory, sheet);
+        let outcome = self
+            .handle(memory, sheet)
+            .map_err(|refusal| PlayFault { offset, refusal });
         let wrote = put_lines(lines, outcome);
         Played { wrote, outcome }
     }
