@@ -8,7 +8,7 @@ mod row;
 
 pub use row::Row;
 
-// The bytes would not all lie in what they are written to.
+// The bytes would pass the end of what they are written to.
 #[derive(Clone, Copy, PartialEq, Eq, Debug)]
 pub struct PastEnd;
 

@@ -9,8 +9,8 @@ pub struct Live {
     pub cpu: Cpu,
 }
 
-// What an exchange ends with. The rules make one of any state, so it has plain fields: a `Cpu` also holds that its pointers and E
-// are in range.
+// What an exchange ends with. Its fields are plain, since the definitions make one of any state; a `Cpu` also holds that its
+// pointers and E are in range.
 #[derive(Clone, Copy, PartialEq, Eq, Debug)]
 pub struct ReadOut {
     pub registers: [u8; 64],

@@ -5,7 +5,7 @@ use std::io::{Read, Write};
 use transcript::{TAPE_SIZE, transcribe};
 
 fn main(rt: HostRuntime) -> anyhow::Result<()> {
-    // What comes after these bytes is not played, so it is not read either.
+    // Bytes past the first TAPE_SIZE are not played, so they are not read.
     let mut tape = Vec::new(rt.alloc());
     rt.stdin().take(TAPE_SIZE as u64).read_to_end(&mut tape)?;
     let text = transcribe(rt.alloc(), &tape)?;

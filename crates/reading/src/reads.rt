@@ -14,12 +14,12 @@ pub fn is_stained(sheet: &[u8], address: u16) -> bool
     (byte_at(sheet, usize::from(address / 8)) >> (address % 8)) % 2 == 1
 }
 
-// Reads a bus beside its sheet.
+// A reader of a bus, with the sheet of its stains.
 #[derive(Drop)]
 pub struct BusReader<'a, B> {
     bus: &'a B,
     sheet: &'a [u8],
-    // The first stained address that was read.
+    // The first stained address that was asked for.
     pub told: Option<u16>,
 }
 

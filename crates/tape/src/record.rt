@@ -63,7 +63,7 @@ impl Record<'_> {
 }
 
 impl Turn {
-    // The mark, where a record with it may come now.
+    // The mark, if a record with it may come now.
     pub(crate) fn admit(self, mark: Mark) -> Result<Mark, TapeFault>
         ensures { result ≡ admit_of self (Some mark) }
     {

@@ -41,7 +41,7 @@ const CASES: [Case; 18] = [
 ];
 
 // What the sizes of a sheet and of a line buffer show, and the sizes.
-#[derive(Clone, Copy)]
+#[derive(Clone, Copy, PartialEq, Eq, Debug)]
 struct Lent {
     name: &'static str,
     sheet: usize,
@@ -78,7 +78,8 @@ fn show(rt: &HostRuntime, (name, tape): Case) -> anyhow::Result<()> {
     Ok(())
 }
 
-// One record, with a sheet and a line buffer of these sizes: how many bytes it wrote, its lines, and its number.
+// One record, with a sheet and a line buffer of these sizes: its number, how many bytes it wrote, and the buffer up to four
+// bytes past them.
 fn show_lent(rt: &HostRuntime, lent: Lent) -> anyhow::Result<()> {
     println!(rt; "# {}", lent.name)?;
     let mut memory = Memory::new(rt.alloc())?;

@@ -26,8 +26,8 @@ pub enum Piece {
     Row([u8; 8]),
 }
 
-// Writes the pieces one after another from `at` on, and says where they end. Where the buffer may be too small for the
-// pieces at their widest, nothing is written.
+// Writes the pieces one after another from `at` on, and says where they end. Where the buffer has no room for the pieces
+// at their widest, nothing is written.
 pub fn put(out: &mut [u8], at: usize, pieces: &[Piece]) -> Option<usize>
     ensures answer { result ≡ (if nat_le (at + room pieces.now) (length out.old) then Some (at + length (joined pieces.now)) else None) }
     ensures after { out.new ≡ (if is_some result then over out.old at (joined pieces.now) else out.old) }

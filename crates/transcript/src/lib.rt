@@ -9,7 +9,7 @@ mod session;
 use session::Session;
 use std::alloc::{AllocError, Global};
 
-// As much of a tape is played.
+// At most so many bytes of a tape are played.
 pub const TAPE_SIZE: usize = 16384;
 
 // The tape's first 16,384 bytes are played, from a cold exchange with a zero sheet on zero memory; this is all that
