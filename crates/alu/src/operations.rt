@@ -189,7 +189,7 @@ impl Flags {
         }
     }
 
-    // The operation, on bytes that it accepts.
+    // The operation, on bytes that it accepts. A match on data: which operation it is comes from a code.
     fn work(self, op: Operation, bytes: &mut [u8], operand: &[u8]) -> Flags
         ensures { done bytes.new result ≡ worked op self bytes.old operand.now }
     {
@@ -214,7 +214,7 @@ impl Flags {
     }
 }
 
-// Works on the row in place. A refused operation leaves it as it was.
+// Works on the row in place, which is lent beside an operand that is only read. A refused operation leaves it as it was.
 pub fn operate(
     op: Operation,
     flags: Flags,

@@ -25,7 +25,8 @@ pub fn is_negative(row: &[u8], n: usize) -> bool
     n > 0 && byte_at(row, n - 1) >= 128
 }
 
-// The status after a result, with the carry and overflow that the operation made; decimal mode stays.
+// The status after a result, with the carry and overflow that the operation made; decimal mode alone stays, so that each
+// bit is written out.
 pub fn see(status: Status, cy: bool, ovf: bool, row: &[u8]) -> Status
     ensures { result ≡ seen status cy ovf row.now }
 {

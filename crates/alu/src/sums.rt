@@ -15,7 +15,7 @@ pub struct Carried {
     pub overflow: bool,
 }
 
-// Whether two numbers of one sign have a sum of the other; the link says which two numbers it adds, if any.
+// Whether two numbers of one sign have a sum of the other; which two numbers a link adds, if any, goes by its case.
 fn overflows(op: Link, a: bool, b: bool, outcome: bool) -> bool
     ensures { result ≡ signs_of op a b outcome }
 {

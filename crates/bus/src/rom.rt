@@ -23,6 +23,7 @@ impl<'a> Bus for Rom<'a> {
 
     ghost rules = { λ s. rom_rules s.base s.bytes.now };
 
+    // As in RAM: what the two share is `place`.
     fn read(&self, address: u16) -> Result<u8, BusRefusal> {
         let i = place(self.base, self.bytes.len(), address)?;
         Ok(self.bytes[i])

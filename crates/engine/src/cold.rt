@@ -20,7 +20,7 @@ pub enum LoadFault {
 }
 
 impl LoadFault {
-    // The refusal's number.
+    // The refusal's number. Both cases have one number, as discriminants could not.
     pub fn number(self) -> u8
         ensures { result ≡ load_number self }
     {

@@ -17,7 +17,7 @@ pub enum Refusal {
 }
 
 impl Refusal {
-    // The refusal's number.
+    // The refusal's number: that of the fault below where there is one, so that no discriminant can say it.
     pub fn number(self) -> u8
         ensures { result ≡ refusal_number self }
     {
@@ -61,7 +61,7 @@ pub enum Event {
     Ended(ReadOut),
 }
 
-// What came of a record, and how many bytes of lines were written.
+// What came of a record, and how many bytes of lines were written: they stand in the buffer that the caller lent.
 #[derive(Clone, Copy, PartialEq, Eq, Debug)]
 pub struct Played {
     pub wrote: usize,

@@ -14,7 +14,7 @@ pub enum Fault {
 }
 
 impl Fault {
-    // The refusal's number.
+    // The refusal's number: that of the cause where the bus refused, so that no discriminant can say it.
     pub fn number(self) -> u8
         ensures { result ≡ fault_number self }
     {

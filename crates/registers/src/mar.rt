@@ -13,7 +13,7 @@ pub enum Mar {
 }
 
 impl Mar {
-    // Registers are 0 to 63.
+    // Registers are 0 to 63: a case that holds its own number, as a discriminant could not.
     pub fn number(self) -> u8
         ensures { result ≡ mar_number self }
     {
