@@ -39,5 +39,6 @@ pub trait Loadable: Bus {
     // Puts all the bytes into the memory from the address on, or none where they would pass its end.
     fn load(&mut self, address: u16, bytes: &[u8]) -> Result<(), PastEnd>
         ensures fits { is_ok result ≡ nat_le (address + length bytes.now) room }
-        ensures after { Self.Bus.meaning self.new ≡ (if is_ok result then loaded (Self.Bus.meaning self.old) address bytes.now else Self.Bus.meaning self.old) };
+        ensures after { Self.Bus.meaning self.new ≡ (if is_ok result then loaded (Self.Bus.meaning self.old) address bytes.now else Self.Bus.meaning self.old) }
+        ensures held { Self.Bus.held self.new ≡ Self.Bus.held self.old };
 }
