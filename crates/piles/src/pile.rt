@@ -19,6 +19,7 @@ impl<B: Bus + Drop> Pile<B> {
     // A pile of no layer yet. Whatever layers are put on it, it is a bus by the same rules.
     pub fn new(lowest: B) -> Pile<B>
         ensures built { built B.Bus.meaning B.Bus.rules result ≡ bottom (B.Bus.meaning lowest) (B.Bus.rules lowest) }
+        ensures outline { outline B.Bus.held result ≡ Outline.bottom (B.Bus.held lowest) }
         ensures every_pile { PilesAreBuses }
     {
         Pile::Bottom(lowest)
@@ -27,6 +28,7 @@ impl<B: Bus + Drop> Pile<B> {
     // Fails for want of memory alone, as the next two do.
     pub fn guarded(self, heap: Global, first: u16, last: u16) -> Result<Pile<B>, AllocError>
         ensures made { IfOk result (λ p. built B.Bus.meaning B.Bus.rules p ≡ guard first last (built B.Bus.meaning B.Bus.rules self)) }
+        ensures outline { IfOk result (λ p. outline B.Bus.held p ≡ Outline.guard first last (outline B.Bus.held self)) }
     {
         let below = Box::new(heap, self)?;
         Ok(Pile::Guard(Guard { first, last, below }))
@@ -35,6 +37,7 @@ impl<B: Bus + Drop> Pile<B> {
     // This pile for the addresses under `at`, the other for the rest.
     pub fn beside(self, heap: Global, at: u16, other: Pile<B>) -> Result<Pile<B>, AllocError>
         ensures made { IfOk result (λ p. built B.Bus.meaning B.Bus.rules p ≡ split at (built B.Bus.meaning B.Bus.rules self) (built B.Bus.meaning B.Bus.rules other)) }
+        ensures outline { IfOk result (λ p. outline B.Bus.held p ≡ Outline.split at (outline B.Bus.held self) (outline B.Bus.held other)) }
     {
         let low = Box::new(heap, self)?;
         let high = Box::new(heap, other)?;
@@ -43,6 +46,7 @@ impl<B: Bus + Drop> Pile<B> {
 
     pub fn shadowed(self, heap: Global, page: u8) -> Result<Pile<B>, AllocError>
         ensures made { IfOk result (λ p. built B.Bus.meaning B.Bus.rules p ≡ shadow page (λ _. None) (built B.Bus.meaning B.Bus.rules self)) }
+        ensures outline { IfOk result (λ p. outline B.Bus.held p ≡ Outline.shadow page self) }
     {
         let below = Box::new(heap, self)?;
         Ok(Pile::Shadow(Shadow::new(page, below)))
