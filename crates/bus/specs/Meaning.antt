@@ -16,6 +16,13 @@ cause_number RomStore = 5
 cause_number Guarded = 6
 cause_number OutsideShadow = 7
 
+-- A refusal's number is its cause's; its detail is the address that was asked, which no layer changes, and the depth.
+abbrev pub refusal_number : BusRefusal → ℕ
+refusal_number r = cause_number r.cause
+
+abbrev pub refusal_detail : ℕ → BusRefusal → ℕ × ℕ
+refusal_detail a r = (a, r.depth)
+
 -- A bus that refuses of its own accord does so at depth 0.
 abbrev pub here : Cause → BusRefusal
 here c = record { cause = c; depth = 0 }

@@ -1,6 +1,6 @@
 // Why a bus refuses, and how far below the bus that was asked.
 ghost use Rattle.std.specs.Prelude.{◌≡◌};
-ghost use Rattle.bus.specs.Meaning.{cause_number, here, raised};
+ghost use Rattle.bus.specs.Meaning.{cause_number, refusal_number, refusal_detail, here, raised};
 
 #[derive(Clone, Copy, PartialEq, Eq, Debug)]
 pub enum Cause {
@@ -32,6 +32,19 @@ impl BusRefusal {
         ensures { result ≡ here cause }
     {
         BusRefusal { cause, depth: 0 }
+    }
+
+    pub fn number(self) -> u8
+        ensures { result ≡ refusal_number self }
+    {
+        self.cause.number()
+    }
+
+    // What the refusal says besides: the address that was asked, which is its caller's to add, and the depth.
+    pub fn detail(self, address: u16) -> (u16, u8)
+        ensures { result ≡ refusal_detail address self }
+    {
+        (address, self.depth)
     }
 }
 
