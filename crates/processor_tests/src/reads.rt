@@ -40,6 +40,24 @@ fn refused(rt: HostRuntime) -> Result<(), Fail> {
     Ok(())
 }
 
+// Stores from 8 on: two would be taken, the third not; one at 65,535 is not, and so 0 is not asked after it.
+#[test]
+fn inquired(rt: HostRuntime) -> Result<(), Fail> {
+    let ram = ram(&rt, 10)?;
+    let reader = BusReader::new(&ram, &[]);
+    let refused = |address| {
+        Err(Fault::Bus {
+            address,
+            refusal: BusRefusal::here(Cause::NoByte),
+        })
+    };
+    assert_eq!(rt; reader.inquire(8, 2), Ok(()));
+    assert_eq!(rt; reader.inquire(8, 3), refused(10));
+    assert_eq!(rt; reader.inquire(65_535, 2), refused(65_535));
+    assert_eq!(rt; reader.inquire(65_535, 0), Ok(()));
+    Ok(())
+}
+
 // Bit 3 of byte 1 is the stain of address 11. The first one told stays told.
 #[test]
 fn stained(rt: HostRuntime) -> Result<(), Fail> {

@@ -7,7 +7,7 @@ use Rattle.bus.specs.declared.refusal.BusRefusal.{BusRefusal}
 use Rattle.reading.specs.declared.fault.Fault.{Fault}
 use Rattle.reading.specs.declared.reads.BusReader.{BusReader}
 use Rattle.reading.specs.Sheets.{noted}
-use Rattle.reading.specs.Trees.{Tree, done, stop, ask, heard, onward, came, asked, bind}
+use Rattle.reading.specs.Trees.{wrap, Tree, done, stop, ask, inquire, heard, onward, came, asked, bind}
 use Rattle.reading.specs.Readings.{next, byte_tree, row_tree, ReadsBy, got_by, row_got}
 
 -- two binds in a row are one
@@ -15,11 +15,13 @@ bind_bind : {A C D : Type 0} (t : Tree A) (f : A → Tree C) (g : C → Tree D) 
 bind_bind (done x) f g = refl
 bind_bind (stop e) f g = refl
 bind_bind (ask a k) f g = ap (ask a) (fun_ext (λ b. bind_bind (k b) f g))
+bind_bind (inquire a t) f g = ap (inquire a) (bind_bind t f g)
 
 bind_done : {A : Type 0} (t : Tree A) → bind t (λ x. done x) ≡ t
 bind_done (done x) = refl
 bind_done (stop e) = refl
 bind_done (ask a k) = ap (ask a) (fun_ext (λ b. bind_done (k b)))
+bind_done (inquire a t) = ap (inquire a) (bind_done t)
 
 -- n bytes upward, after those that were read before
 abbrev pub row_after : List ℕ → ℕ → ℕ → Tree (List ℕ)
@@ -32,20 +34,20 @@ row_after_more before n a = ap (ask a) (fun_ext (λ b. bind_bind (row_tree n (ne
 abbrev pub place : ℕ → ℕ → ℕ
 place a i = (a + i % 65536) % 65536
 
-place_more : (a i : ℕ) → place a (i + 1) ≡ next (place a i)
+pub place_more : (a i : ℕ) → place a (i + 1) ≡ next (place a i)
 place_more a i = omega arith
 
-module _ (reads : ℕ → Result ℕ BusRefusal) (sheet : List ℕ) where
+module _ (m : Meaning) (sheet : List ℕ) where
   -- what comes of a tree, and what is told after it
   abbrev comes : {A : Type 0} → Tree A → Option ℕ → Result A Fault × Option ℕ
-  comes t told = (came reads t, noted sheet told (asked reads t))
+  comes t told = (came m t, noted sheet told (asked m t))
 
   -- what comes of a tree once its first byte was read
   abbrev goes_on : {A : Type 0} → Result ℕ Fault → Option ℕ → (ℕ → Tree A) → Result A Fault × Option ℕ
   goes_on (Ok b) told k = comes (k b) told
   goes_on (Err f) told k = (Err f, told)
 
-  asks_by : {A : Type 0} (a : ℕ) (k : ℕ → Tree A) (u : Option ℕ) (x : Result ℕ BusRefusal) → goes_on (heard a x (λ b. Ok b)) (noted sheet u (onward x (λ b. []))) k ≡ (heard a x (λ b. came reads (k b)), noted sheet u (onward x (λ b. asked reads (k b))))
+  asks_by : {A : Type 0} (a : ℕ) (k : ℕ → Tree A) (u : Option ℕ) (x : Result ℕ BusRefusal) → goes_on (heard a x (λ b. Ok b)) (noted sheet u (onward x (λ b. []))) k ≡ (heard a x (λ b. came m (k b)), noted sheet u (onward x (λ b. asked m (k b))))
   asks_by a k u (Ok b) = refl
   asks_by a k u (Err e) = refl
 
@@ -54,16 +56,16 @@ gets_by a x xs more (Ok b) = refl
 gets_by a x xs more (Err e) = refl
 
 module _ {B : Type 0} (meaning : B → Meaning) (reader₀ : BusReader B) (old : List ℕ) (a₀ : ℕ) where
-  abbrev reads : ℕ → Result ℕ BusRefusal
-  reads = (meaning reader₀.bus.now).reads
+  abbrev bus : Meaning
+  bus = meaning reader₀.bus.now
 
   abbrev whole : Result (List ℕ) Fault × Option ℕ
-  whole = comes reads reader₀.sheet.now (row_tree (length old) a₀) reader₀.told
+  whole = comes bus reader₀.sheet.now (row_tree (length old) a₀) reader₀.told
 
   -- the first i bytes of the row were read, and what is left to read comes to what there was
   pub record Filling (xs : List ℕ) (i : ℕ) (reader : BusReader B) : Type 0 where
-    pub left : comes reads reader₀.sheet.now (row_after (take i xs) (length (drop i xs)) (place a₀ i)) reader.told ≡ whole
-    pub got : take i xs ++ row_got reads (place a₀ i) (drop i xs) ≡ row_got reads a₀ old
+    pub left : comes bus reader₀.sheet.now (row_after (take i xs) (length (drop i xs)) (place a₀ i)) reader.told ≡ whole
+    pub got : take i xs ++ row_got bus.reads (place a₀ i) (drop i xs) ≡ row_got bus.reads a₀ old
     pub bus : reader.bus.now ≡ reader₀.bus.now
     pub sheet : reader.sheet.now ≡ reader₀.sheet.now
 
@@ -71,7 +73,7 @@ module _ {B : Type 0} (meaning : B → Meaning) (reader₀ : BusReader B) (old :
   filling_begins h =
       let first : place a₀ 0 ≡ a₀ = omega arith in
       record {
-        left = rw first (ap (λ t. comes reads reader₀.sheet.now t reader₀.told) (bind_done (row_tree (length old) a₀)));
+        left = rw first (ap (λ t. comes bus reader₀.sheet.now t reader₀.told) (bind_done (row_tree (length old) a₀)));
         got = rw first refl;
         bus = refl;
         sheet = refl;
@@ -84,23 +86,23 @@ module _ {B : Type 0} (meaning : B → Meaning) (reader₀ : BusReader B) (old :
     abbrev rest : List ℕ
     rest = drop (i + 1) xs
 
-    left_on : (r : Result ℕ Fault) → ReadsBy meaning reader (byte_tree a) r reader' → goes_on reads reader₀.sheet.now r reader'.told (λ b. row_after (take i xs ++ b ∷ []) (length rest) (next a)) ≡ whole
+    left_on : (r : Result ℕ Fault) → ReadsBy meaning reader (byte_tree a) r reader' → goes_on bus reader₀.sheet.now r reader'.told (λ b. row_after (take i xs ++ b ∷ []) (length rest) (next a)) ≡ whole
     left_on r q =
         let left = rw (drop_more xs i 0 h) at f.left in
         let read = rw (f.bus, f.sheet) at q.read in
-        (λ j. goes_on reads reader₀.sheet.now (read.result j) (read.told j) (λ b. row_after (take i xs ++ b ∷ []) (length rest) (next a))) ∙ asks_by reads reader₀.sheet.now a _ _ (reads a) ∙ ap (λ t. comes reads reader₀.sheet.now t reader.told) (sym (row_after_more (take i xs) (length rest) a)) ∙ left
+        (λ j. goes_on bus reader₀.sheet.now (read.result j) (read.told j) (λ b. row_after (take i xs ++ b ∷ []) (length rest) (next a))) ∙ asks_by bus reader₀.sheet.now a _ _ (bus.reads (wrap a)) ∙ ap (λ t. comes bus reader₀.sheet.now t reader.told) (sym (row_after_more (take i xs) (length rest) a)) ∙ left
 
     pub filling_more : (b : ℕ) → ReadsBy meaning reader (byte_tree a) (Ok b) reader' → Filling (set xs i b) (i + 1) reader'
     filling_more b q =
         let got = rw (drop_more xs i 0 h) at f.got in
         let read = rw (f.bus, f.sheet) at q.read in
-        let more = row_got reads (next a) rest in
+        let more = row_got bus.reads (next a) rest in
         let k : i < i + 1 = omega arith in
         let t = take_more_set xs i b h in
         let d = drop-set-lt (i + 1) xs i b k in
         record {
           left = rw (t, d, place_more a₀ i) (left_on (Ok b) q);
-          got = rw (t, d, place_more a₀ i) (append_assoc (take i xs) (b ∷ []) more ∙ ap (λ z. take i xs ++ z) (ap (λ r. got_by r (get_or xs i 0) rest more) read.result ∙ gets_by a _ _ _ (reads a)) ∙ got);
+          got = rw (t, d, place_more a₀ i) (append_assoc (take i xs) (b ∷ []) more ∙ ap (λ z. take i xs ++ z) (ap (λ r. got_by r (get_or xs i 0) rest more) read.result ∙ gets_by a _ _ _ (bus.reads (wrap a))) ∙ got);
           bus = q.bus ∙ f.bus;
           sheet = q.sheet ∙ f.sheet;
         }

@@ -5,7 +5,8 @@ use Rattle.std.specs.Prelude.{ℕ, ◌/◌, ◌%◌, ◌^◌, Bool, cond, List, 
 abbrev pub stained : List ℕ → ℕ → Bool
 stained sheet a = slice_index sheet (a / 8) / 2 ^ (a % 8) % 2 == 1
 
--- The first stained address is told: the one noted before, or the first of those read.
+-- The first stained address that is read is told, which means that the answer names it: the one noted before, or the
+-- first of those read.
 abbrev pub note : List ℕ → Option ℕ → ℕ → Option ℕ
 note sheet None a = cond (stained sheet a) (Some a) None
 note sheet (Some t) a = Some t

@@ -1,5 +1,5 @@
-// Reading a bus for an instruction: one byte after another, each refusal with its address, and the first stained address
-// that is read noted on the way.
+// What an instruction asks of a bus: one byte after another, and whether its stores would be taken; each refusal with its
+// address, and the first stained address that is read noted on the way.
 #![tactic(auto)]
 
 mod fault;

@@ -1,6 +1,6 @@
-// Reads one byte, a pair or a row.
+// Reads one byte, a pair or a row, and inquires about stores.
 ghost use Rattle.std.specs.Prelude.{◌≡◌, length};
-ghost use Rattle.reading.specs.Readings.{ReadsBy, byte_tree, pair_tree, row_tree, row_with, row_got};
+ghost use Rattle.reading.specs.Readings.{ReadsBy, byte_tree, pair_tree, row_tree, row_with, row_got, stores_tree};
 ghost use Rattle.reading.specs.Sheets.{stained};
 
 use crate::fault::Fault;
@@ -66,6 +66,22 @@ impl<'a, B: Bus> BusReader<'a, B> {
     {
         for (i, byte) in row.iter_mut().enumerate() {
             *byte = self.byte(address.wrapping_add((i % 65536) as u16))?;
+        }
+        Ok(())
+    }
+
+    // Inquires about stores to n addresses upward; the first that would not be taken refuses.
+    #[tactic(auto, using(crate::proofs::Laws::store_more, crate::proofs::Laws::inquiring))]
+    pub fn inquire(&self, address: u16, n: usize) -> Result<(), Fault>
+        ensures { ReadsBy B.Bus.meaning self.now (stores_tree n address) result self.now }
+    {
+        for i in 0..n {
+            let at = address.wrapping_add((i % 65536) as u16);
+            let taken = self.bus.inquire(at);
+            taken.map_err(|refusal| Fault::Bus {
+                address: at,
+                refusal,
+            })?;
         }
         Ok(())
     }
