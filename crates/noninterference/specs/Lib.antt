@@ -1,0 +1,6 @@
+pub mod Refusals
+pub mod Processors
+pub mod Steps
+pub mod Histories
+pub mod Theorem
+pub mod Buses
