@@ -4,6 +4,8 @@ use Rattle.alu.specs.declared.operations.Operation.{Operation}
 use Rattle.alu.specs.declared.operations.Operation.TheVariants as op
 use Rattle.registers.specs.declared.cpu.rows.Form.{Form}
 use Rattle.registers.specs.declared.cpu.rows.Form.TheVariants.{Byte, Multi}
+use Rattle.decode.specs.declared.instruction.Base.{Base}
+use Rattle.decode.specs.declared.instruction.Base.TheVariants as base
 use Rattle.decode.specs.declared.instruction.Mode.{Mode}
 use Rattle.decode.specs.declared.instruction.Mode.TheVariants as mode
 use Rattle.decode.specs.declared.instruction.Source.{Source}
@@ -46,17 +48,24 @@ logic_of n f = of4 n (instruction.Compute op.Test None f) (instruction.Compute o
 abbrev pub control_of : ℕ → Control
 control_of n = of8 n control.Binary control.Decimal control.SaveStatus control.DecrementE control.IncrementE control.ClearE control.Return control.RestoreStatus
 
+-- In memory, at the base itself or at the pair found there.
+abbrev pub direct : Base → Mode
+direct b = mode.Memory b false
+
+abbrev pub indirect : Base → Mode
+indirect b = mode.Memory b true
+
 -- The eight operands of LD and ST.
 abbrev pub mode_of : ℕ → Mode
-mode_of n = of8 n mode.Register mode.RegisterDirect mode.Immediate mode.RegisterIndirect mode.LiteralDirect mode.IndexedDirect mode.LiteralIndirect mode.IndexedIndirect
+mode_of n = of8 n mode.Register (direct base.Register) mode.Immediate (indirect base.Register) (direct base.Literal) (direct base.Indexed) (indirect base.Literal) (indirect base.Indexed)
 
 -- The four operands of CM, AD, SB and AN.
 abbrev pub sum_mode_of : ℕ → Mode
-sum_mode_of n = of4 n mode.Register mode.Immediate mode.LiteralDirect mode.RegisterDirect
+sum_mode_of n = of4 n mode.Register mode.Immediate (direct base.Literal) (direct base.Register)
 
+-- The eight operands of PO and PU.
 abbrev pub stack_of : Bool → Bool → Mode
-stack_of false i = mode.StackUp i
-stack_of true i = mode.StackDown i
+stack_of down i = mode.Memory (cond down base.StackDown base.StackUp) i
 
 -- LD and PO load; ST and PU store.
 abbrev pub transfer_of : Bool → Mode → Form → Instruction
@@ -70,7 +79,7 @@ sum_of r k =
     (cond (nat_lt k 4) (Some (instruction.Compute op.Add (Some (sum_mode_of r)) (form_of k)))
     (cond (nat_lt k 6) (Some (instruction.Compute op.Subtract (Some (sum_mode_of r)) (form_of k)))
     (cond (k == 7) (Some (instruction.Compute op.And (Some (sum_mode_of r)) Multi))
-    (of4 r (Some (instruction.Call mode.IndexedDirect)) (Some (instruction.Call mode.LiteralDirect)) None None))))
+    (of4 r (Some (instruction.Call base.Indexed)) (Some (instruction.Call base.Literal)) None None))))
 
 -- JMP JNO JOD JEV JNG JPS JNZ JZR JEN JEZ JNC JCY JLZ JLN JRZ JRN.
 abbrev pub condition_of : ℕ → Condition

@@ -2,21 +2,30 @@
 use alu::Operation;
 use registers::Form;
 
+// Where an operand in memory, or a store, gets its address from.
+#[derive(Clone, Copy, PartialEq, Eq, Debug)]
+pub enum Base {
+    // The pair at ARP.
+    Register,
+    // The two bytes after the code.
+    Literal,
+    // Both added; the sum is written to R2-R3.
+    Indexed,
+    // The pair at ARP, which is raised afterwards.
+    StackUp,
+    // The pair at ARP, which is lowered first.
+    StackDown,
+}
+
 // Where the operand is, or where a store goes.
 #[derive(Clone, Copy, PartialEq, Eq, Debug)]
 pub enum Mode {
+    // The registers from ARP on.
     Register,
-    RegisterDirect,
+    // The bytes after the code.
     Immediate,
-    RegisterIndirect,
-    LiteralDirect,
-    IndexedDirect,
-    LiteralIndirect,
-    IndexedIndirect,
-    // At the ARP pair, which is raised afterwards.
-    StackUp { indirect: bool },
-    // At the ARP pair, which is lowered first.
-    StackDown { indirect: bool },
+    // At the base, or at the pair that is found there.
+    Memory { base: Base, indirect: bool },
 }
 
 // What ARP or DRP is set to: a number, or what R0 holds.
@@ -68,6 +77,6 @@ pub enum Instruction {
     Compute(Operation, Option<Mode>, Form),
     Store(Mode, Form),
     Control(Control),
-    Call(Mode),
+    Call(Base),
     Jump(Condition),
 }

@@ -2,13 +2,13 @@
 #![tactic(auto)]
 
 ghost use Rattle.std.specs.Prelude.{◌≡◌, not};
-ghost use Rattle.decode.specs.Codes.{form_of, source_of, shift_of, count_of, logic_of, control_of, mode_of, sum_mode_of, stack_of, transfer_of, sum_of, condition_of, decoded};
+ghost use Rattle.decode.specs.Codes.{form_of, source_of, shift_of, count_of, logic_of, control_of, direct, indirect, mode_of, sum_mode_of, stack_of, transfer_of, sum_of, condition_of, decoded};
 ghost use Rattle.decode.specs.OneToOne.{illegal, CodesAreOneToOne};
 
 mod instruction;
 
 use alu::Operation;
-pub use instruction::{Condition, Control, Instruction, Mode, Source};
+pub use instruction::{Base, Condition, Control, Instruction, Mode, Source};
 pub use registers::Form;
 
 // The parts of a code become enums in these functions alone: a single bit comes as a bool, a field of more bits as a number,
@@ -82,19 +82,37 @@ fn control(n: u8) -> Control
     }
 }
 
+fn direct(base: Base) -> Mode
+    ensures { result ≡ direct base }
+{
+    Mode::Memory {
+        base,
+        indirect: false,
+    }
+}
+
+fn indirect(base: Base) -> Mode
+    ensures { result ≡ indirect base }
+{
+    Mode::Memory {
+        base,
+        indirect: true,
+    }
+}
+
 // The eight operands of LD and ST.
 fn mode(n: u8) -> Mode
     ensures { result ≡ mode_of n }
 {
     match n {
         0 => Mode::Register,
-        1 => Mode::RegisterDirect,
+        1 => direct(Base::Register),
         2 => Mode::Immediate,
-        3 => Mode::RegisterIndirect,
-        4 => Mode::LiteralDirect,
-        5 => Mode::IndexedDirect,
-        6 => Mode::LiteralIndirect,
-        _ => Mode::IndexedIndirect,
+        3 => indirect(Base::Register),
+        4 => direct(Base::Literal),
+        5 => direct(Base::Indexed),
+        6 => indirect(Base::Literal),
+        _ => indirect(Base::Indexed),
     }
 }
 
@@ -105,19 +123,17 @@ fn sum_mode(n: u8) -> Mode
     match n {
         0 => Mode::Register,
         1 => Mode::Immediate,
-        2 => Mode::LiteralDirect,
-        _ => Mode::RegisterDirect,
+        2 => direct(Base::Literal),
+        _ => direct(Base::Register),
     }
 }
 
+// The eight operands of PO and PU.
 fn stack(down: bool, indirect: bool) -> Mode
     ensures { result ≡ stack_of down indirect }
 {
-    if down {
-        Mode::StackDown { indirect }
-    } else {
-        Mode::StackUp { indirect }
-    }
+    let base = if down { Base::StackDown } else { Base::StackUp };
+    Mode::Memory { base, indirect }
 }
 
 // LD and PO load; ST and PU store.
@@ -141,8 +157,8 @@ fn sum(row: u8, low: u8) -> Option<Instruction>
         2 | 3 => Some(Instruction::Compute(Operation::Add, operand, form(low))),
         4 | 5 => Some(Instruction::Compute(Operation::Subtract, operand, form(low))),
         7 => Some(Instruction::Compute(Operation::And, operand, Form::Multi)),
-        _ if row == 0 => Some(Instruction::Call(Mode::IndexedDirect)),
-        _ if row == 1 => Some(Instruction::Call(Mode::LiteralDirect)),
+        _ if row == 0 => Some(Instruction::Call(Base::Indexed)),
+        _ if row == 1 => Some(Instruction::Call(Base::Literal)),
         _ => None,
     }
 }

@@ -1,5 +1,5 @@
 // Registers, pairs and rows of them. Register numbers wrap modulo 64.
-ghost use Rattle.std.specs.Prelude.{◌≡◌, length};
+ghost use Rattle.std.specs.Prelude.{◌≡◌, ◌≤◌, length};
 ghost use Rattle.registers.specs.Model.{state_of};
 ghost use Rattle.registers.specs.Rows.{register_at, pair_at, row_at, with_pair, with_row, span_of};
 
@@ -15,7 +15,8 @@ pub enum Form {
 // How many registers a form works on: one for a byte form; for a multi form those up to the next boundary, which below
 // R40 lies at every second register, and from R40 on at every eighth.
 pub fn span(form: Form, drp: u8) -> usize
-    ensures { result ≡ span_of form drp }
+    ensures value { result ≡ span_of form drp }
+    ensures few { result ≤ 8 }
 {
     match form {
         Form::Byte => 1,
