@@ -20,10 +20,7 @@ fn a_store(rt: HostRuntime) {
         decode(0x22),
         Some(Instruction::SetArp(Source::Number(0x22)))
     );
-    assert_eq!(rt;
-        decode(0xB2),
-        Some(Instruction::Store(literal, Form::Byte))
-    );
+    assert_eq!(rt; decode(0xB2), Some(Instruction::Store(literal, Form::Byte)));
     assert_eq!(rt;
         decode(0xB3),
         Some(Instruction::Store(literal, Form::Multi))
@@ -31,31 +28,39 @@ fn a_store(rt: HostRuntime) {
     assert_eq!(rt; decode(0x01), Some(Instruction::SetArp(Source::R0)));
 }
 
-// The operands of LD in their order, of CM, and of PO and PU, which load and store.
+fn memory(base: Base, indirect: bool) -> Option<Mode> {
+    Some(Mode::Memory { base, indirect })
+}
+
+// The operands of LD in their order, of CM, and of PO.
 #[test]
 fn operands(rt: HostRuntime) {
-    let memory = |base, indirect| Mode::Memory { base, indirect };
-    let load = |mode| Some(Instruction::Compute(Operation::Load, Some(mode), Form::Byte));
-    let compare = |mode| Some(Instruction::Compute(Operation::Compare, Some(mode), Form::Byte));
-    let store = |mode| Some(Instruction::Store(mode, Form::Byte));
-    assert_eq!(rt; decode(0xA0), load(Mode::Register));
-    assert_eq!(rt; decode(0xA4), load(memory(Base::Register, false)));
-    assert_eq!(rt; decode(0xA8), load(Mode::Immediate));
-    assert_eq!(rt; decode(0xAC), load(memory(Base::Register, true)));
-    assert_eq!(rt; decode(0xB0), load(memory(Base::Literal, false)));
-    assert_eq!(rt; decode(0xB4), load(memory(Base::Indexed, false)));
-    assert_eq!(rt; decode(0xB8), load(memory(Base::Literal, true)));
-    assert_eq!(rt; decode(0xBC), load(memory(Base::Indexed, true)));
-    assert_eq!(rt; decode(0xC0), compare(Mode::Register));
-    assert_eq!(rt; decode(0xC8), compare(Mode::Immediate));
-    assert_eq!(rt; decode(0xD0), compare(memory(Base::Literal, false)));
-    assert_eq!(rt; decode(0xD8), compare(memory(Base::Register, false)));
-    assert_eq!(rt; decode(0xE0), load(memory(Base::StackUp, false)));
-    assert_eq!(rt; decode(0xE2), load(memory(Base::StackDown, false)));
-    assert_eq!(rt; decode(0xE4), store(memory(Base::StackUp, false)));
-    assert_eq!(rt; decode(0xE6), store(memory(Base::StackDown, false)));
-    assert_eq!(rt; decode(0xE8), load(memory(Base::StackUp, true)));
-    assert_eq!(rt; decode(0xEE), store(memory(Base::StackDown, true)));
+    let table = [
+        (0xA0, Operation::Load, Some(Mode::Register)),
+        (0xA4, Operation::Load, memory(Base::Register, false)),
+        (0xA8, Operation::Load, Some(Mode::Immediate)),
+        (0xAC, Operation::Load, memory(Base::Register, true)),
+        (0xB0, Operation::Load, memory(Base::Literal, false)),
+        (0xB4, Operation::Load, memory(Base::Indexed, false)),
+        (0xB8, Operation::Load, memory(Base::Literal, true)),
+        (0xBC, Operation::Load, memory(Base::Indexed, true)),
+        (0xC0, Operation::Compare, Some(Mode::Register)),
+        (0xC8, Operation::Compare, Some(Mode::Immediate)),
+        (0xD0, Operation::Compare, memory(Base::Literal, false)),
+        (0xD8, Operation::Compare, memory(Base::Register, false)),
+        (0xE0, Operation::Load, memory(Base::StackUp, false)),
+        (0xE2, Operation::Load, memory(Base::StackDown, false)),
+        (0xE8, Operation::Load, memory(Base::StackUp, true)),
+        (0xEA, Operation::Load, memory(Base::StackDown, true)),
+    ];
+    for (code, operation, operand) in table {
+        let instruction = Instruction::Compute(operation, operand, Form::Byte);
+        assert_eq!(rt; decode(code), Some(instruction));
+    }
+}
+
+#[test]
+fn subroutine_jumps(rt: HostRuntime) {
     assert_eq!(rt; decode(0xC6), Some(Instruction::Call(Base::Indexed)));
     assert_eq!(rt; decode(0xCE), Some(Instruction::Call(Base::Literal)));
 }
