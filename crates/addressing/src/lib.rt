@@ -1,4 +1,4 @@
-// How an instruction is fetched, and where its operands and stores are.
+// How an instruction is fetched, where its operand in memory or its store is, and what the operand's bytes are.
 #![tactic(auto)]
 
 mod addresses;
@@ -8,5 +8,4 @@ mod operands;
 
 pub use addresses::{address_of, base_address, move_pair};
 pub use fetching::{Fetched, fetch, pass};
-pub use lengths::width;
-pub use operands::{Operand, data_row, read_operand};
+pub use operands::{data_row, read_operand};

@@ -1,0 +1,78 @@
+// Reads the data and the operand of an instruction.
+ghost use Rattle.std.specs.Prelude.{◌≡◌, ◌≤◌};
+ghost use Rattle.byte_rows.specs.Short.{bytes_of};
+ghost use Rattle.registers.specs.Model.{state_of};
+ghost use Rattle.registers.specs.Rows.{row_at};
+ghost use Rattle.reading.specs.Readings.{ReadsBy, row_tree};
+ghost use Rattle.reading.specs.Trees.{map_ok};
+ghost use Rattle.addressing.specs.Operands.{data_of, memory_tree, operand_tree};
+
+use crate::addresses::{address_of, base_address};
+use bus::Bus;
+use byte_rows::Row;
+use decode::{Form, Mode};
+use reading::{BusReader, Fault};
+use registers::{Cpu, span};
+
+// Reads n bytes from the address on, upward.
+pub fn read_bytes<B: Bus>(reader: &mut BusReader<B>, address: u16, n: usize) -> Result<Row, Fault>
+    requires { n ≤ 8 }
+    ensures { ReadsBy B.Bus.meaning reader.old (row_tree n address) (map_ok bytes_of result) reader.new }
+{
+    let mut bytes = [0; 8];
+    reader.row(address, &mut bytes[..n])?;
+    Ok(Row { bytes, len: n })
+}
+
+// The n registers from k on.
+fn register_row(cpu: &Cpu, k: u8, n: usize) -> Row
+    requires { n ≤ 8 }
+    ensures { bytes_of result ≡ row_at cpu.now.registers k n }
+{
+    let mut bytes = [0; 8];
+    cpu.read_row(k, &mut bytes[..n]);
+    Row { bytes, len: n }
+}
+
+// The registers that the form works on.
+pub fn data_row(cpu: &Cpu, form: Form) -> Row
+    ensures { bytes_of result ≡ data_of form (state_of cpu.now) }
+{
+    register_row(cpu, cpu.drp, span(form, cpu.drp))
+}
+
+// Reads n bytes of memory, from the address on that the base gives.
+fn read_memory<B: Bus>(
+    reader: &mut BusReader<B>,
+    indirect: bool,
+    base: u16,
+    n: usize,
+) -> Result<Row, Fault>
+    requires { n ≤ 8 }
+    ensures { ReadsBy B.Bus.meaning reader.old (memory_tree indirect base n) (map_ok bytes_of result) reader.new }
+{
+    let address = address_of(reader, indirect, base)?;
+    read_bytes(reader, address, n)
+}
+
+// Reads the operand of an instruction that has these bytes after its code.
+pub fn read_operand<B: Bus>(
+    reader: &mut BusReader<B>,
+    cpu: &Cpu,
+    mode: Option<Mode>,
+    form: Form,
+    literal: &Row,
+) -> Result<Row, Fault>
+    ensures { ReadsBy B.Bus.meaning reader.old (operand_tree mode form (state_of cpu.now) (bytes_of literal.now)) (map_ok bytes_of result) reader.new }
+{
+    let n = span(form, cpu.drp);
+    match mode {
+        None => Ok(Row::empty()),
+        Some(Mode::Register) => Ok(register_row(cpu, cpu.arp, n)),
+        Some(Mode::Immediate) => Ok(*literal),
+        Some(Mode::Memory { base, indirect }) => {
+            let at = base_address(cpu, base, indirect, form, literal);
+            read_memory(reader, indirect, at, n)
+        }
+    }
+}
