@@ -8,7 +8,7 @@ use Rattle.stains.specs.Stores.{Store, stored_all}
 use Rattle.stains.proofs.Storing.{OffStains, Spotless, marked_length, both_stored, one_stained, cleared, takes_stay}
 use Rattle.noninterference.specs.declared.refusal.StepFault.TheVariants.{Instruction}
 use Rattle.noninterference.specs.Processors.{Processor}
-use Rattle.noninterference.specs.Steps.{Outcome, verdict, State, outside_by, ends, within_by, told_of, step_by, step, rung, ring_by}
+use Rattle.noninterference.specs.Steps.{Outcome, verdict, State, planned, outside_by, ends, within_by, told_of, step_by, step, rung, ring_by}
 use Rattle.noninterference.specs.Histories.{Clear, Unmarred}
 use Rattle.noninterference.proofs.Local.{TakeAlike, local, tells_none}
 
@@ -76,7 +76,19 @@ module _ (P : Processor) (exact : (c d : P.Cpu) → P.mar c d ≡ None → c ≡
       let both : ((outside_by P s (told_of P s) r).outcome ≡ (outside_by P d (told_of P d) r').outcome) × Beside (outside_by P s (told_of P s) r).after_it (outside_by P d (told_of P d) r').after_it = rw (none, none', ← same) (both_outside s d b e r) in
       subst (λ v. ((outside_by P s (told_of P s) r).outcome ≡ (step_by P v d).outcome) × Beside (outside_by P s (told_of P s) r).after_it (step_by P v d).after_it) (sym b.unvisited) both
 
-  -- a step within a visit, on the one: a clean end gives the copy back
+  -- stores that stain, on the one
+  one_stained_beside : (s d : State P) → Beside s d → (visit : Option Cpu) (p : Plan) → outer visit (after p) ≡ d.cpu → Beside (planned P s visit true p) d
+  one_stained_beside s d b visit p e = record {
+    size_kept = marked_length true (stores p) s.sheet ∙ b.size_kept;
+    takes = takes_one (stores p) s.meaning d.meaning b.takes;
+    reads = one_stained (stores p) s.sheet b.size_kept s.meaning d.meaning b.reads;
+    cpus = e;
+    unvisited = b.unvisited;
+    double_size = b.double_size;
+    spotless = b.spotless;
+  }
+
+  -- a step within a visit: a clean end gives the copy back
   ended_outer : (t : Bool) (copy c : Cpu) → Unmarred (cond t (Some (verdict (mar copy c))) None) → outer (cond t None (Some copy)) c ≡ copy
   ended_outer false copy c h = refl
   ended_outer true copy c h = sym (exact copy c (none (mar copy c) h))
@@ -86,28 +98,12 @@ module _ (P : Processor) (exact : (c d : P.Cpu) → P.mar c d ≡ None → c ≡
       none (Some m) h = absurd h
 
   pub inner_step : (s d : State P) (copy : Cpu) → Beside s d → s.visit ≡ Some copy → (r : Result Plan Fault) → Clear (within_by P s copy r).outcome → Beside (within_by P s copy r).after_it d
-  inner_step s d copy b v (Ok p) h = record {
-    size_kept = marked_length true (stores p) s.sheet ∙ b.size_kept;
-    takes = takes_one (stores p) s.meaning d.meaning b.takes;
-    reads = one_stained (stores p) s.sheet b.size_kept s.meaning d.meaning b.reads;
-    cpus = ended_outer (ends P copy p) copy (after p) h.1 ∙ (rw v at b.cpus);
-    unvisited = b.unvisited;
-    double_size = b.double_size;
-    spotless = b.spotless;
-  }
+  inner_step s d copy b v (Ok p) h = one_stained_beside s d b (cond (ends P copy p) None (Some copy)) p (ended_outer (ends P copy p) copy (after p) h.1 ∙ (rw v at b.cpus))
   inner_step s d copy b v (Err f) h = b
 
-  -- a ring, on the one
+  -- a ring
   rung_beside : (s d : State P) → Beside s d → s.visit ≡ None → (r : Result Plan Fault) → Beside (rung P s r).after_it d
-  rung_beside s d b n (Ok p) = record {
-    size_kept = marked_length true (stores p) s.sheet ∙ b.size_kept;
-    takes = takes_one (stores p) s.meaning d.meaning b.takes;
-    reads = one_stained (stores p) s.sheet b.size_kept s.meaning d.meaning b.reads;
-    cpus = (rw n at b.cpus);
-    unvisited = b.unvisited;
-    double_size = b.double_size;
-    spotless = b.spotless;
-  }
+  rung_beside s d b n (Ok p) = one_stained_beside s d b (Some s.cpu) p (rw n at b.cpus)
   rung_beside s d b n (Err f) = b
 
   pub ring_beside : (s d : State P) → Beside s d → (even : Bool) (v : Option Cpu) → s.visit ≡ v → (n : ℕ) → Beside (ring_by P even v n s).after_it d

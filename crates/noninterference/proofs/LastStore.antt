@@ -7,7 +7,7 @@ use Rattle.reading.specs.Trees.{came}
 use Rattle.stains.specs.Stores.{marked_all, stores_to}
 use Rattle.stains.proofs.Storing.{marked_length, marked_is, blank_size, blank_spotless}
 use Rattle.noninterference.specs.Processors.{Processor}
-use Rattle.noninterference.specs.Steps.{State, outside_by, within_by, told_of, step_by, rung, ring_by, ring}
+use Rattle.noninterference.specs.Steps.{State, carried_out, told_of, step_by, ring_by, ring}
 use Rattle.noninterference.specs.Histories.{Event, ringing, stores_of, by_handler, last_by_handler, Call, a_step, a_ring, Exchange, begun, step_event, called, called_all}
 use Rattle.noninterference.specs.Theorem.{StainsTellTheLastStore, SheetsKeepTheirSize}
 use Rattle.noninterference.proofs.Kept.{calls_keep}
@@ -33,29 +33,21 @@ module _ (P : Processor) where
     tell = λ a l. ap (λ s. stained s a) q ∙ marked_is (by_handler e) (stores_of e) x.state.sheet k.size a l ∙ by_cases (stores_to (stores_of e) a) (by_handler e) (last_by_handler x.history a) (stained x.state.sheet a) (k.tell a l);
   }
 
-  outside_marks : (s : State P) (told : Option ℕ) (r : Result Plan Fault) → (outside_by P s told r).after_it.sheet ≡ marked_all false (outside_by P s told r).stores_made s.sheet
-  outside_marks s told (Ok p) = refl
-  outside_marks s told (Err f) = refl
-
-  within_marks : (s : State P) (copy : Cpu) (r : Result Plan Fault) → (within_by P s copy r).after_it.sheet ≡ marked_all true (within_by P s copy r).stores_made s.sheet
-  within_marks s copy (Ok p) = refl
-  within_marks s copy (Err f) = refl
-
-  rung_marks : (s : State P) (r : Result Plan Fault) → (rung P s r).after_it.sheet ≡ marked_all true (rung P s r).stores_made s.sheet
-  rung_marks s (Ok p) = refl
-  rung_marks s (Err f) = refl
+  marks : {A : Type 0} (s : State P) (told : Option ℕ) (answer : Plan → A) (visit : Plan → Option Cpu) (stain : Bool) (r : Result Plan Fault) → (carried_out P s told answer visit stain r).after_it.sheet ≡ marked_all stain (carried_out P s told answer visit stain r).stores_made s.sheet
+  marks s told answer visit stain (Ok p) = refl
+  marks s told answer visit stain (Err f) = refl
 
   ring_marks : (even : Bool) (v : Option Cpu) (n : ℕ) (s : State P) → (ring_by P even v n s).after_it.sheet ≡ marked_all true (ring_by P even v n s).stores_made s.sheet
   ring_marks false v n s = refl
   ring_marks true (Some copy) n s = refl
-  ring_marks true None n s = rung_marks s (came s.meaning (jump n s.cpu))
+  ring_marks true None n s = marks s None (λ p. tt) (λ p. Some s.cpu) true (came s.meaning (jump n s.cpu))
 
   step_stained : (x : Exchange P) → Stained x → Stained (called P a_step x)
   step_stained x k = go x.state.visit
     where
       go : (v : Option Cpu) → Stained (stepped v x)
-      go None = event_stained x k (step_event P None (step_by P None x.state)) (step_by P None x.state).after_it (outside_marks x.state (told_of P x.state) (came x.state.meaning (plan x.state.cpu)))
-      go (Some copy) = event_stained x k (step_event P (Some copy) (step_by P (Some copy) x.state)) (step_by P (Some copy) x.state).after_it (within_marks x.state copy (came x.state.meaning (plan x.state.cpu)))
+      go None = event_stained x k (step_event P None (step_by P None x.state)) (step_by P None x.state).after_it (marks x.state (told_of P x.state) _ _ false (came x.state.meaning (plan x.state.cpu)))
+      go (Some copy) = event_stained x k (step_event P (Some copy) (step_by P (Some copy) x.state)) (step_by P (Some copy) x.state).after_it (marks x.state None _ _ true (came x.state.meaning (plan x.state.cpu)))
 
   ring_stained : (v : ℕ) (x : Exchange P) → Stained x → Stained (called P (a_ring v) x)
   ring_stained v x k = event_stained x k (ringing (ring P v x.state).outcome (ring P v x.state).stores_made) (ring P v x.state).after_it (ring_marks (eqb (v % 2) 0) x.state.visit v x.state)

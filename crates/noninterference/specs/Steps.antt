@@ -50,27 +50,22 @@ module _ (P : Processor) where
   abbrev pub planned : State → Option Cpu → Bool → Plan → State
   planned s visit stain p = record { cpu = after p; visit = visit; sheet = marked_all stain (stores p) s.sheet; meaning = stored_all (stores p) s.meaning }
 
+  -- What came of reading and checking an instruction is carried out: its plan with an answer, or the refusal.
+  abbrev pub carried_out : {A : Type 0} → State → Option ℕ → (Plan → A) → (Plan → Option Cpu) → Bool → Result Plan Fault → Worked A
+  carried_out s told answer visit stain (Ok p) = record { outcome = Ok (answer p); stores_made = stores p; after_it = planned s (visit p) stain p }
+  carried_out s told answer visit stain (Err f) = refused s (Instruction f) told
+
   -- Outside a visit: the first stained address that was read is told, also where the step is refused, and stores clear stains.
   abbrev pub outside_by : State → Option ℕ → Result Plan Fault → Worked Answer
-  outside_by s told (Ok p) = record {
-    outcome = Ok (record { place = place s.cpu; length = size p; told = told; ended = None });
-    stores_made = stores p;
-    after_it = planned s None false p;
-  }
-  outside_by s told (Err f) = refused s (Instruction f) told
+  outside_by s told r = carried_out s told (λ p. record { place = place s.cpu; length = size p; told = told; ended = None }) (λ p. None) false r
 
   -- The visit ends at an RTN that brings the return pointer back.
   abbrev pub ends : Cpu → Plan → Bool
   ends copy p = returns p && level copy (after p)
 
-  -- Within a visit: nothing is told, and stores set stains.
+  -- Within a visit: nothing is told, and stores set stains. The step that ends the visit says how; then the copy goes.
   abbrev pub within_by : State → Cpu → Result Plan Fault → Worked Answer
-  within_by s copy (Ok p) = record {
-    outcome = Ok (record { place = place s.cpu; length = size p; told = None; ended = cond (ends copy p) (Some (verdict (mar copy (after p)))) None });
-    stores_made = stores p;
-    after_it = planned s (cond (ends copy p) None (Some copy)) true p;
-  }
-  within_by s copy (Err f) = refused s (Instruction f) None
+  within_by s copy r = carried_out s None (λ p. record { place = place s.cpu; length = size p; told = None; ended = cond (ends copy p) (Some (verdict (mar copy (after p)))) None }) (λ p. cond (ends copy p) None (Some copy)) true r
 
   -- The first stained address that the next instruction asks the bus to read, by the sheet before the step.
   abbrev pub told_of : State → Option ℕ
@@ -86,8 +81,7 @@ module _ (P : Processor) where
 
   -- A ring opens a visit, and its stores set stains.
   abbrev pub rung : State → Result Plan Fault → Worked (Unit {0})
-  rung s (Ok p) = record { outcome = Ok tt; stores_made = stores p; after_it = planned s (Some s.cpu) true p }
-  rung s (Err f) = refused s (Instruction f) None
+  rung s r = carried_out s None (λ p. tt) (λ p. Some s.cpu) true r
 
   abbrev pub ring_by : Bool → Option Cpu → ℕ → State → Worked (Unit {0})
   ring_by false visit v s = refused s OddVector None
