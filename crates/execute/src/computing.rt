@@ -1,0 +1,99 @@
+// Operations on the data.
+ghost use Rattle.std.specs.Prelude.{◌≡◌};
+ghost use Rattle.byte_rows.specs.Short.{bytes_of};
+ghost use Rattle.registers.specs.Model.{state_of};
+ghost use Rattle.alu.specs.Operations.{done, operated, left, row_after};
+ghost use Rattle.reading.specs.Readings.{ReadsBy};
+ghost use Rattle.reading.specs.Trees.{map_ok};
+ghost use Rattle.execute.specs.Instructions.{keeps as keeps_row, moved_by, with_done, computed, compute_tree};
+ghost use Rattle.execute.specs.Models.{plan_of, if_ok};
+
+use crate::executed::Executed;
+use addressing::{data_row, move_pair, read_operand};
+use alu::{Flags, NotDecimal, Operation, operate};
+use bus::Bus;
+use byte_rows::Row;
+use decode::{Form, Mode};
+use reading::{BusReader, Fault};
+use registers::Cpu;
+
+// A test and a comparison leave only status and E.
+fn keeps(op: Operation) -> bool
+    ensures { result ≡ keeps_row op }
+{
+    !matches!(op, Operation::Test | Operation::Compare)
+}
+
+// Moves the pair that the mode moves.
+pub fn move_by(cpu: &mut Cpu, mode: Option<Mode>, form: Form, literal: &Row)
+    ensures { state_of cpu.new ≡ moved_by mode form (state_of cpu.old) (bytes_of literal.now) }
+{
+    if let Some(Mode::Memory { base, indirect }) = mode {
+        move_pair(cpu, base, indirect, form, literal);
+    }
+}
+
+// Writes what an operation left of the data.
+fn write_done(cpu: &mut Cpu, op: Operation, row: &Row, flags: Flags)
+    ensures { state_of cpu.new ≡ with_done op (state_of cpu.old) (done (bytes_of row.now) flags) }
+{
+    if keeps(op) {
+        cpu.write_row(cpu.drp, row.as_slice());
+    }
+    cpu.status = flags.status;
+    cpu.e = flags.e % 16;
+}
+
+// Works on a row in place.
+fn operate_row(
+    op: Operation,
+    flags: Flags,
+    row: &mut Row,
+    operand: &Row,
+) -> Result<Flags, NotDecimal>
+    ensures { left (bytes_of row.new) result ≡ operated op flags (bytes_of row.old) (bytes_of operand.now) }
+{
+    let mut bytes = row.bytes;
+    let done = operate(op, flags, &mut bytes[..row.len], operand.as_slice());
+    row.bytes = bytes;
+    done
+}
+
+// Works on the data with the operand that was read, and writes what comes of them over the pair that the mode moves.
+fn compute_with(
+    cpu: &mut Cpu,
+    op: Operation,
+    mode: Option<Mode>,
+    form: Form,
+    literal: &Row,
+    operand: &Row,
+) -> Result<Executed, Fault>
+    ensures outcome { map_ok (plan_of (state_of cpu.new)) result ≡ computed op mode form (state_of cpu.old) (bytes_of literal.now) (bytes_of operand.now) }
+    ensures refused { state_of cpu.new ≡ if_ok result (state_of cpu.new) (state_of cpu.old) }
+{
+    let flags = Flags {
+        status: cpu.status,
+        e: cpu.e,
+    };
+    let mut row = data_row(cpu, form);
+    let flags = operate_row(op, flags, &mut row, operand).map_err(Fault::NotDecimal)?;
+    move_by(cpu, mode, form, literal);
+    write_done(cpu, op, &row, flags);
+    Ok(Executed::still(1 + literal.count()))
+}
+
+// Reads the operand, works on the data with it, and writes what comes of them.
+pub fn compute<B: Bus>(
+    reader: &mut BusReader<B>,
+    cpu: &mut Cpu,
+    op: Operation,
+    mode: Option<Mode>,
+    form: Form,
+    literal: &Row,
+) -> Result<Executed, Fault>
+    ensures outcome { ReadsBy B.Bus.meaning reader.old (compute_tree op mode form (state_of cpu.old) (bytes_of literal.now)) (map_ok (plan_of (state_of cpu.new)) result) reader.new }
+    ensures refused { state_of cpu.new ≡ if_ok result (state_of cpu.new) (state_of cpu.old) }
+{
+    let operand = read_operand(reader, cpu, mode, form, literal)?;
+    compute_with(cpu, op, mode, form, literal, &operand)
+}

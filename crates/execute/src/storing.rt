@@ -1,0 +1,82 @@
+// Stores of the data.
+ghost use Rattle.std.specs.Prelude.{◌≡◌};
+ghost use Rattle.byte_rows.specs.Short.{bytes_of};
+ghost use Rattle.registers.specs.Model.{state_of};
+ghost use Rattle.reading.specs.Readings.{ReadsBy};
+ghost use Rattle.reading.specs.Trees.{map_ok};
+ghost use Rattle.execute.specs.Instructions.{with_seen, stored_memory, stored_registers, store_tree};
+ghost use Rattle.execute.specs.Models.{plan_of, if_ok};
+ghost use Rattle.execute.specs.Plans.{settled};
+
+use crate::computing::move_by;
+use crate::executed::Executed;
+use addressing::{address_of, base_address, data_row};
+use alu::see;
+use bus::Bus;
+use byte_rows::Row;
+use decode::{Form, Mode};
+use reading::{BusReader, Fault};
+use registers::Cpu;
+
+// Sees the data, and clears CY and OVF.
+fn see_data(cpu: &mut Cpu, row: &Row)
+    ensures { state_of cpu.new ≡ with_seen (state_of cpu.old) (bytes_of row.now) }
+{
+    cpu.status = see(cpu.status, false, false, row.as_slice());
+}
+
+// Stores the data to an address that the mode gave.
+fn store_data<B: Bus>(
+    reader: &BusReader<B>,
+    cpu: &mut Cpu,
+    mode: Mode,
+    form: Form,
+    literal: &Row,
+    at: u16,
+) -> Result<Executed, Fault>
+    ensures outcome { ReadsBy B.Bus.meaning reader.now (settled (stored_memory mode form (state_of cpu.old) (bytes_of literal.now) at)) (map_ok (plan_of (state_of cpu.new)) result) reader.now }
+    ensures refused { state_of cpu.new ≡ if_ok result (state_of cpu.new) (state_of cpu.old) }
+{
+    let bytes = data_row(cpu, form);
+    reader.inquire(at, bytes.as_slice().len())?;
+    move_by(cpu, Some(mode), form, literal);
+    see_data(cpu, &bytes);
+    Ok(Executed {
+        at,
+        bytes,
+        ..Executed::still(1 + literal.count())
+    })
+}
+
+// Stores the data to the registers from ARP on.
+fn store_registers(cpu: &mut Cpu, form: Form, literal: &Row) -> Executed
+    ensures { plan_of (state_of cpu.new) result ≡ stored_registers form (state_of cpu.old) (bytes_of literal.now) }
+{
+    let bytes = data_row(cpu, form);
+    cpu.write_row(cpu.arp, bytes.as_slice());
+    see_data(cpu, &bytes);
+    Executed::still(1 + literal.count())
+}
+
+// Stores the data where the mode says.
+pub fn store<B: Bus>(
+    reader: &mut BusReader<B>,
+    cpu: &mut Cpu,
+    mode: Mode,
+    form: Form,
+    literal: &Row,
+    after: u16,
+) -> Result<Executed, Fault>
+    ensures outcome { ReadsBy B.Bus.meaning reader.old (store_tree mode form (state_of cpu.old) after (bytes_of literal.now)) (map_ok (plan_of (state_of cpu.new)) result) reader.new }
+    ensures refused { state_of cpu.new ≡ if_ok result (state_of cpu.new) (state_of cpu.old) }
+{
+    match mode {
+        Mode::Register => Ok(store_registers(cpu, form, literal)),
+        Mode::Immediate => store_data(reader, cpu, mode, form, literal, after),
+        Mode::Memory { base, indirect } => {
+            let at = base_address(cpu, base, indirect, form, literal);
+            let at = address_of(reader, indirect, at)?;
+            store_data(reader, cpu, mode, form, literal, at)
+        }
+    }
+}
