@@ -1,66 +1,55 @@
-// Each cause, through 300 layers: the depth counts them and stops at 255.
-use bus::{Bus, BusRefusal, Cause, Ram, Rom};
+// Each cause through 300 layers: the depth counts them and stops at 255.
+use crate::{check, ram, refused};
+use bus::{Bus, Cause, Rom};
 use piles::Pile;
 use std::process::Abort;
 use std::test::Fail;
 
-// One layer after another, and what a store to the address is refused with on top of each.
-fn refused_at_each<B: Bus + Drop>(
+// What a read of the address and a store to it get below one layer after another. The refusal's detail is the address asked and
+// the depth.
+fn at_each_depth<B: Bus + Drop>(
     rt: &(impl Abort + AllocGlobal),
     bottom: Pile<B>,
     address: u16,
+    read: Result<u8, Cause>,
     cause: Cause,
 ) -> Result<(), Fail> {
     let mut pile = bottom;
-    for height in 0..300u16 {
-        let depth = height.min(255) as u8;
-        assert_eq!(rt; pile.inquire(address), Err(BusRefusal { cause, depth }));
+    for layers in 0..=300u16 {
+        let depth = layers.min(255) as u8;
+        let refusal = refused(cause, depth);
+        let read = read.map_err(|cause| refused(cause, depth));
+        check(rt, &mut pile, address, read, Err(refusal));
+        assert_eq!(rt; refusal.detail(address), (address, depth));
         pile = pile.guarded(rt.alloc(), 1, 0)?;
     }
     Ok(())
 }
 
-fn ram(rt: &HostRuntime) -> Result<Ram, Fail> {
-    let bytes = vec![in rt.alloc(); 7u8; 600]?;
-    Ok(Ram { base: 0, bytes })
-}
-
 #[test]
-fn no_byte(rt: HostRuntime) -> Result<(), Fail> {
-    refused_at_each(&rt, Pile::new(ram(&rt)?), 600, Cause::NoByte)
-}
-
-#[test]
-fn rom_store(rt: HostRuntime) -> Result<(), Fail> {
+fn each_cause(rt: HostRuntime) -> Result<(), Fail> {
+    let bottom = Pile::new(ram(&rt, 0, 600, 7)?);
+    let no_byte = Cause::NoByte;
+    at_each_depth(&rt, bottom, 600, Err(no_byte), no_byte)?;
     let rom = Rom {
         base: 0,
         bytes: b"rom",
     };
-    refused_at_each(&rt, Pile::new(rom), 2, Cause::RomStore)
+    at_each_depth(&rt, Pile::new(rom), 2, Ok(b'm'), Cause::RomStore)?;
+    let guard = Pile::new(ram(&rt, 0, 600, 7)?).guarded(rt.alloc(), 10, 20)?;
+    at_each_depth(&rt, guard, 20, Ok(7), Cause::Guarded)?;
+    let shadow = Pile::new(ram(&rt, 0, 600, 7)?).shadowed(rt.alloc(), 1)?;
+    at_each_depth(&rt, shadow, 512, Ok(7), Cause::OutsideShadow)
 }
 
 #[test]
-fn guarded(rt: HostRuntime) -> Result<(), Fail> {
-    let pile = Pile::new(ram(&rt)?).guarded(rt.alloc(), 10, 20)?;
-    refused_at_each(&rt, pile, 20, Cause::Guarded)
-}
-
-#[test]
-fn outside_shadow(rt: HostRuntime) -> Result<(), Fail> {
-    let pile = Pile::new(ram(&rt)?).shadowed(rt.alloc(), 1)?;
-    refused_at_each(&rt, pile, 512, Cause::OutsideShadow)
-}
-
-// Reads are refused at the same depths.
-#[test]
-fn unreadable(rt: HostRuntime) -> Result<(), Fail> {
-    let mut pile = Pile::new(ram(&rt)?);
-    for height in 0..300u16 {
-        let depth = height.min(255) as u8;
-        let cause = Cause::NoByte;
-        assert_eq!(rt; pile.read(600), Err(BusRefusal { cause, depth }));
-        assert_eq!(rt; pile.read(599), Ok(7));
-        pile = pile.guarded(rt.alloc(), 1, 0)?;
+fn numbers(rt: HostRuntime) {
+    for (cause, number) in [
+        (Cause::NoByte, 4),
+        (Cause::RomStore, 5),
+        (Cause::Guarded, 6),
+        (Cause::OutsideShadow, 7),
+    ] {
+        assert_eq!(rt; refused(cause, 3).number(), number);
     }
-    Ok(())
 }

@@ -1,65 +1,89 @@
 // The first and last address of each kind of bus, and one past each end.
+use crate::{check, ram, refused};
 use bus::{Bus, BusRefusal, Cause, LineBoard, Ram, Rom, Trunk};
 use byte_rows::PastEnd;
+use std::process::Abort;
 use std::test::Fail;
 
-fn no_byte() -> BusRefusal {
-    BusRefusal::here(Cause::NoByte)
+const BYTES: &[u8; 16] = b"0123456789abcdef";
+
+// Where sixteen bytes begin, some addresses that have one of them, and some that have none. Bytes past 65,535 are not reached.
+const ENDS: [(u16, &[(u16, u8)], &[u16]); 5] = [
+    (0, &[(0, b'0'), (1, b'1'), (15, b'f')], &[16, 256, 65535]),
+    (100, &[(100, b'0'), (115, b'f')], &[0, 99, 116, 65535]),
+    (65520, &[(65520, b'0'), (65535, b'f')], &[65519, 0, 15]),
+    (
+        65530,
+        &[(65530, b'0'), (65535, b'5')],
+        &[65529, 0, 5, 9, 10],
+    ),
+    (65535, &[(65535, b'0')], &[65534, 0, 1, 14]),
+];
+
+fn at_the_ends<B: Bus>(
+    rt: &impl Abort,
+    bus: &mut B,
+    with: &[(u16, u8)],
+    without: &[u16],
+    store: Result<(), BusRefusal>,
+) {
+    for (address, byte) in with.iter().copied() {
+        check(rt, bus, address, Ok(byte), store);
+    }
+    let no_byte = refused(Cause::NoByte, 0);
+    for address in without.iter().copied() {
+        check(rt, bus, address, Err(no_byte), Err(no_byte));
+    }
 }
 
-// Ten bytes from 65,530 on: the last four are not reached.
 #[test]
-fn ram_at_the_top(rt: HostRuntime) -> Result<(), Fail> {
-    let bytes = vec![in rt.alloc(); 5u8; 10]?;
-    let mut ram = Ram { base: 65530, bytes };
-    assert_eq!(rt; ram.read(65529), Err(no_byte()));
-    assert_eq!(rt; ram.store(65529, 1), Err(no_byte()));
-    assert_eq!(rt; ram.store(65530, 1), Ok(()));
-    assert_eq!(rt; ram.store(65535, 2), Ok(()));
-    assert_eq!(rt; ram.read(65530), Ok(1));
-    assert_eq!(rt; ram.read(65531), Ok(5));
-    assert_eq!(rt; ram.read(65535), Ok(2));
-    assert_eq!(rt; ram.read(0), Err(no_byte()));
-    assert_eq!(rt; ram.load(65534, b"ab"), Ok(()));
+fn sixteen_bytes(rt: HostRuntime) -> Result<(), Fail> {
+    for (base, with, without) in ENDS {
+        let bytes = BYTES.to_vec(rt.alloc())?;
+        let mut ram = Ram { base, bytes };
+        at_the_ends(&rt, &mut ram, with, without, Ok(()));
+        let bytes = BYTES;
+        let mut rom = Rom { base, bytes };
+        let rom_store = refused(Cause::RomStore, 0);
+        at_the_ends(&rt, &mut rom, with, without, Err(rom_store));
+        let mut board = LineBoard::new(base, BYTES.map(Trunk::from));
+        at_the_ends(&rt, &mut board, with, without, Ok(()));
+    }
+    Ok(())
+}
+
+// RAM without a byte, and RAM at all addresses.
+#[test]
+fn none_and_all(rt: HostRuntime) -> Result<(), Fail> {
+    let mut none = ram(&rt, 0, 0, 7)?;
+    at_the_ends(&rt, &mut none, &[], &[0, 1, 65535], Ok(()));
+    let mut all = ram(&rt, 0, 65_536, 7)?;
+    at_the_ends(&rt, &mut all, &[(0, 7), (65535, 7)], &[], Ok(()));
+    Ok(())
+}
+
+// Ten bytes from 65,530 on, of which four are not reached: a load goes in whole or not at all.
+#[test]
+fn loads(rt: HostRuntime) -> Result<(), Fail> {
+    let mut ram = ram(&rt, 65530, 10, 7)?;
+    assert_eq!(rt; ram.load(65529, b"a"), Err(PastEnd));
     assert_eq!(rt; ram.load(65534, b"abc"), Err(PastEnd));
+    assert_eq!(rt; ram.read(65534), Ok(7));
+    assert_eq!(rt; ram.load(65534, b"ab"), Ok(()));
+    assert_eq!(rt; ram.read(65533), Ok(7));
+    assert_eq!(rt; ram.read(65535), Ok(b'b'));
     Ok(())
 }
 
 #[test]
-fn ram_at_the_bottom(rt: HostRuntime) -> Result<(), Fail> {
-    let bytes = vec![in rt.alloc(); 5u8; 2]?;
-    let ram = Ram { base: 0, bytes };
-    assert_eq!(rt; ram.read(0), Ok(5));
-    assert_eq!(rt; ram.inquire(1), Ok(()));
-    assert_eq!(rt; ram.inquire(2), Err(no_byte()));
-    assert_eq!(rt; ram.read(65535), Err(no_byte()));
-    Ok(())
-}
-
-#[test]
-fn rom(rt: HostRuntime) {
-    let mut rom = Rom {
-        base: 100,
-        bytes: b"xy",
-    };
-    assert_eq!(rt; rom.read(99), Err(no_byte()));
-    assert_eq!(rt; rom.read(100), Ok(b'x'));
-    assert_eq!(rt; rom.read(101), Ok(b'y'));
-    assert_eq!(rt; rom.read(102), Err(no_byte()));
-    assert_eq!(rt; rom.store(101, 0), Err(BusRefusal::here(Cause::RomStore)));
-    assert_eq!(rt; rom.store(102, 0), Err(no_byte()));
-}
-
-#[test]
-fn line_board(rt: HostRuntime) {
+fn trunks(rt: HostRuntime) {
     let mut board = LineBoard::new(32768, [Trunk::from(0); 16]);
     assert_eq!(rt; board.store(32768, 0x3A), Ok(()));
     assert_eq!(rt; board.trunk(0), Trunk::new(3, 10));
     assert_eq!(rt; board.rewrite(15, Trunk::from(0xF1)), Some(Trunk::from(0)));
     assert_eq!(rt; board.read(32783), Ok(0xF1));
-    assert_eq!(rt; board.read(32784), Err(no_byte()));
-    assert_eq!(rt; board.read(32767), Err(no_byte()));
     assert_eq!(rt; board.trunk(16), None);
     assert_eq!(rt; board.rewrite(16, Trunk::from(1)), None);
     assert_eq!(rt; Trunk::new(16, 0), None);
+    assert_eq!(rt; Trunk::new(0, 16), None);
 }

@@ -1,54 +1,163 @@
-// A guard over a split, over a shadow and a ROM: three layers high.
-use bus::{Bus, BusRefusal, Cause, Ram, Rom};
+// Three layers, of every kind over every kind, over RAM, ROM and the line board.
+use crate::{check, refused};
+use bus::{Bus, BusRefusal, Cause, LineBoard, Ram, Rom, Trunk};
 use layers::{Guard, Shadow, Split};
+use piles::Pile;
+use std::process::Abort;
 use std::test::Fail;
 
-fn refused(cause: Cause, depth: u8) -> BusRefusal {
-    BusRefusal { cause, depth }
+// A bus for the bottom of a pile, over sixteen bytes from 504 on: the page ends among them.
+trait Bottom: Bus + Drop + Sized {
+    // Why it takes no store, if it takes none.
+    const CAUSE: Option<Cause>;
+
+    fn new(rt: &impl AllocGlobal) -> Result<Self, Fail>;
 }
 
-// 300 bytes of RAM, of which those from 256 on are shadowed; from 1,024 on ROM; 256 to 260 locked.
-fn pile(rt: &HostRuntime) -> Result<Guard<Split<Shadow<Ram>, Rom<'static>>>, Fail> {
-    let bytes = vec![in rt.alloc(); 9u8; 300]?;
-    let low = Shadow::new(1, Ram { base: 0, bytes });
-    let high = Rom {
-        base: 1024,
-        bytes: b"rom",
-    };
-    Ok(Guard {
-        first: 256,
-        last: 260,
-        below: Split {
-            at: 1024,
-            low,
-            high,
-        },
-    })
+const BASE: u16 = 504;
+
+const BYTES: &[u8; 16] = b"0123456789abcdef";
+
+impl Bottom for Ram {
+    const CAUSE: Option<Cause> = None;
+
+    fn new(rt: &impl AllocGlobal) -> Result<Ram, Fail> {
+        let bytes = BYTES.to_vec(rt.alloc())?;
+        Ok(Ram { base: BASE, bytes })
+    }
 }
 
-#[test]
-fn reads_and_stores(rt: HostRuntime) -> Result<(), Fail> {
-    let mut bus = pile(&rt)?;
-    assert_eq!(rt; bus.store(261, 1), Ok(()));
-    assert_eq!(rt; bus.read(261), Ok(1));
-    assert_eq!(rt; bus.read(262), Ok(9));
-    assert_eq!(rt; bus.read(1025), Ok(b'o'));
-    assert_eq!(rt; bus.read(260), Ok(9));
-    let ram = bus.below.low.into_below();
-    assert_eq!(rt; ram.read(261), Ok(9));
+impl Bottom for Rom<'static> {
+    const CAUSE: Option<Cause> = Some(Cause::RomStore);
+
+    fn new(_rt: &impl AllocGlobal) -> Result<Rom<'static>, Fail> {
+        let bytes = BYTES;
+        Ok(Rom { base: BASE, bytes })
+    }
+}
+
+impl Bottom for LineBoard {
+    const CAUSE: Option<Cause> = None;
+
+    fn new(_rt: &impl AllocGlobal) -> Result<LineBoard, Fail> {
+        Ok(LineBoard::new(BASE, BYTES.map(Trunk::from)))
+    }
+}
+
+// A guard of 504 and 505; a split at 516, with another bottom from there on; a shadow of page 1, which ends at 511.
+#[derive(Clone, Copy, PartialEq, Eq, Debug)]
+enum Layer {
+    Guard,
+    Split,
+    Shadow,
+}
+
+const LAYERS: [Layer; 3] = [Layer::Guard, Layer::Split, Layer::Shadow];
+
+// What a read gives, by the layers from the top one on: how many it passes is counted here.
+fn read_by(layers: &[Layer], address: u16) -> Result<u8, BusRefusal> {
+    let passed = layers
+        .iter()
+        .position(|layer| *layer == Layer::Split && address >= 516)
+        .map_or(layers.len(), |place| place + 1);
+    address
+        .checked_sub(BASE)
+        .and_then(|place| BYTES.get(usize::from(place)).copied())
+        .ok_or(refused(Cause::NoByte, (passed % 256) as u8))
+}
+
+// What a store gets, likewise. The bottom stores where it can be read, or refuses there for a cause of its own.
+fn store_by(layers: &[Layer], address: u16, cause: Option<Cause>) -> Result<(), BusRefusal> {
+    let mut passed = 0u8;
+    for layer in layers {
+        match layer {
+            Layer::Guard if address == 504 || address == 505 => {
+                return Err(refused(Cause::Guarded, passed));
+            }
+            Layer::Shadow if address / 256 != 1 => {
+                return Err(refused(Cause::OutsideShadow, passed));
+            }
+            Layer::Shadow => return read_by(layers, address).map(|_| ()),
+            _ => {}
+        }
+        passed = passed.saturating_add(1);
+        if *layer == Layer::Split && address >= 516 {
+            break;
+        }
+    }
+    read_by(layers, address)?;
+    cause.map_or(Ok(()), |cause| Err(refused(cause, passed)))
+}
+
+fn pile<B: Bottom>(rt: &impl AllocGlobal, layers: &[Layer]) -> Result<Pile<B>, Fail> {
+    let mut pile = Pile::new(B::new(rt)?);
+    for layer in layers.iter().rev() {
+        pile = match layer {
+            Layer::Guard => pile.guarded(rt.alloc(), 504, 505)?,
+            Layer::Split => pile.beside(rt.alloc(), 516, Pile::new(B::new(rt)?))?,
+            Layer::Shadow => pile.shadowed(rt.alloc(), 1)?,
+        };
+    }
+    Ok(pile)
+}
+
+fn every_pile<B: Bottom>(rt: &(impl Abort + AllocGlobal)) -> Result<(), Fail> {
+    for top in LAYERS {
+        for middle in LAYERS {
+            for low in LAYERS {
+                let layers = [top, middle, low];
+                let mut pile: Pile<B> = pile(rt, &layers)?;
+                for address in [503, 504, 505, 506, 511, 512, 515, 516, 519, 520] {
+                    let read = read_by(&layers, address);
+                    let store = store_by(&layers, address, B::CAUSE);
+                    check(rt, &mut pile, address, read, store);
+                }
+            }
+        }
+    }
     Ok(())
 }
 
 #[test]
-fn refuses(rt: HostRuntime) -> Result<(), Fail> {
-    let mut bus = pile(&rt)?;
-    assert_eq!(rt; bus.store(256, 1), Err(refused(Cause::Guarded, 0)));
-    assert_eq!(rt; bus.store(260, 1), Err(refused(Cause::Guarded, 0)));
-    assert_eq!(rt; bus.store(0, 1), Err(refused(Cause::OutsideShadow, 2)));
-    assert_eq!(rt; bus.store(300, 1), Err(refused(Cause::NoByte, 3)));
-    assert_eq!(rt; bus.read(300), Err(refused(Cause::NoByte, 3)));
-    assert_eq!(rt; bus.store(1024, 1), Err(refused(Cause::RomStore, 2)));
-    assert_eq!(rt; bus.store(1027, 1), Err(refused(Cause::NoByte, 2)));
-    assert_eq!(rt; bus.read(65535), Err(refused(Cause::NoByte, 2)));
+fn every_kind_over_every_kind(rt: HostRuntime) -> Result<(), Fail> {
+    every_pile::<Ram>(&rt)?;
+    every_pile::<Rom>(&rt)?;
+    every_pile::<LineBoard>(&rt)
+}
+
+// Layers by their types: a guard over a split, over a shadow and a ROM.
+#[test]
+fn by_types(rt: HostRuntime) -> Result<(), Fail> {
+    let low = Shadow::new(1, <Ram as Bottom>::new(&rt)?);
+    let high = Rom {
+        base: 516,
+        bytes: BYTES,
+    };
+    let below = Split { at: 516, low, high };
+    let mut bus = Guard {
+        first: 504,
+        last: 505,
+        below,
+    };
+    for (address, read, store) in [
+        (
+            503,
+            Err(refused(Cause::NoByte, 3)),
+            Err(refused(Cause::NoByte, 3)),
+        ),
+        (505, Ok(b'1'), Err(refused(Cause::Guarded, 0))),
+        (506, Ok(b'2'), Ok(())),
+        (512, Ok(b'8'), Err(refused(Cause::OutsideShadow, 2))),
+        (516, Ok(b'0'), Err(refused(Cause::RomStore, 2))),
+        (
+            532,
+            Err(refused(Cause::NoByte, 2)),
+            Err(refused(Cause::NoByte, 2)),
+        ),
+    ] {
+        check(&rt, &mut bus, address, read, store);
+    }
+    let ram = bus.below.low.into_below();
+    assert_eq!(rt; ram.read(506), Ok(b'2'));
     Ok(())
 }
