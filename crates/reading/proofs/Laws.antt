@@ -52,8 +52,8 @@ module _ {A C : Type 0} (m : Meaning) (k : A → Tree C) where
     told_err (inquire a t) y u e = onward_err a y (m.takes (wrap a)) (λ _. came m t) (λ _. asked m (bind t k)) (λ _. asked m t) u (λ _. told_err t y u) e
 
 -- A reader that got x from one tree, and went on from x.
-pub then : {B A C : Type 0} {meaning : B → Meaning} {t : Tree A} (k : A → Tree C) {x : A} {r : Result A Fault} {z : Result C Fault} {before between after : BusReader B} → r ≡ Ok x → ReadsBy meaning before t r between → ReadsBy meaning between (k x) z after → ReadsBy meaning before (bind t k) z after
-then {meaning = meaning} {t = t} k {x = x} {before = before} e p q =
+pub then : {B A C : Type 0} (meaning : B → Meaning) (t : Tree A) (k : A → Tree C) (x : A) (r : Result A Fault) (z : Result C Fault) (before between after : BusReader B) → r ≡ Ok x → ReadsBy meaning before t r between → ReadsBy meaning between (k x) z after → ReadsBy meaning before (bind t k) z after
+then meaning t k x r z before between after e p q =
     let m = meaning before.bus.now in
     let sheet = before.sheet.now in
     let ok : came m t ≡ Ok x = sym p.read.result ∙ e in
@@ -68,8 +68,8 @@ then {meaning = meaning} {t = t} k {x = x} {before = before} e p q =
     }
 
 -- A reader that stopped.
-pub stops : {B A C : Type 0} {meaning : B → Meaning} {t : Tree A} (k : A → Tree C) {f : Fault} {r : Result A Fault} {z : Result C Fault} {before after : BusReader B} → r ≡ Err f → z ≡ Err f → ReadsBy meaning before t r after → ReadsBy meaning before (bind t k) z after
-stops {meaning = meaning} {t = t} k {f = f} {before = before} e g p =
+pub stops : {B A C : Type 0} (meaning : B → Meaning) (t : Tree A) (k : A → Tree C) (f : Fault) (r : Result A Fault) (z : Result C Fault) (before after : BusReader B) → r ≡ Err f → z ≡ Err f → ReadsBy meaning before t r after → ReadsBy meaning before (bind t k) z after
+stops meaning t k f r z before after e g p =
     let m = meaning before.bus.now in
     let sheet = before.sheet.now in
     let bad : came m t ≡ Err f = sym p.read.result ∙ e in
@@ -80,9 +80,9 @@ stops {meaning = meaning} {t = t} k {f = f} {before = before} e g p =
     }
 
 -- What asks nothing.
-pub at_once : {B A : Type 0} {meaning : B → Meaning} (r : Result A Fault) {reader : BusReader B} → ReadsBy meaning reader (given r) r reader
-at_once (Ok x) = record { read = record { result = refl; told = refl }; bus = refl; sheet = refl }
-at_once (Err f) = record { read = record { result = refl; told = refl }; bus = refl; sheet = refl }
+pub at_once : {B A : Type 0} (meaning : B → Meaning) (r : Result A Fault) (reader : BusReader B) → ReadsBy meaning reader (given r) r reader
+at_once meaning (Ok x) reader = record { read = record { result = refl; told = refl }; bus = refl; sheet = refl }
+at_once meaning (Err f) reader = record { read = record { result = refl; told = refl }; bus = refl; sheet = refl }
 
 -- The store of byte i is inquired about, and then the rest.
 pub store_more : (m : Meaning) (n i a : ℕ) → i < n → came m (stores_tree (n - i) (place a i)) ≡ heard (place a i) (m.takes (place a i)) (λ _. came m (stores_tree (n - (i + 1)) (place a (i + 1))))
@@ -101,8 +101,8 @@ stores_ask_nothing : (m : Meaning) (n a : ℕ) → asked m (stores_tree n a) ≡
 stores_ask_nothing m zero a = refl
 stores_ask_nothing m (suc n) a = nothing_asked (m.takes (wrap a)) (asked m (stores_tree n (next a))) (stores_ask_nothing m n (next a))
 
-pub inquiring : {B : Type 0} {meaning : B → Meaning} {reader : BusReader B} (n a : ℕ) {r : Result (Unit {0}) Fault} → r ≡ came (meaning reader.bus.now) (stores_tree n a) → ReadsBy meaning reader (stores_tree n a) r reader
-inquiring {meaning = meaning} {reader = reader} n a e = record {
+pub inquiring : {B : Type 0} (meaning : B → Meaning) (reader : BusReader B) (n a : ℕ) (r : Result (Unit {0}) Fault) → r ≡ came (meaning reader.bus.now) (stores_tree n a) → ReadsBy meaning reader (stores_tree n a) r reader
+inquiring meaning reader n a r e = record {
   read = record { result = e; told = sym (ap (noted reader.sheet.now reader.told) (stores_ask_nothing (meaning reader.bus.now) n a)) };
   bus = refl;
   sheet = refl;

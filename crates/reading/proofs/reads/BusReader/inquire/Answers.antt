@@ -11,4 +11,4 @@ loop-i-init g c =
 pub returns : goal.returns
 returns g c =
     let none : c.args.n - c.loop-i.i ≡ 0 = omega arith in
-    inquiring _ _ (rw none at c.loop-i.invariant)
+    inquiring _ _ _ _ _ (rw none at c.loop-i.invariant)
