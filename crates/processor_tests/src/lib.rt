@@ -1,8 +1,12 @@
-// Codes, spans of registers, and reads of a bus, by example.
+// Codes, spans of registers, reads of a bus, and what instructions fetch and read, by example.
 #![tactic(auto)]
 
 #[cfg(test)]
 mod codes;
+#[cfg(test)]
+mod fetching;
+#[cfg(test)]
+mod operands;
 #[cfg(test)]
 mod reads;
 #[cfg(test)]

@@ -1,0 +1,132 @@
+// What is fetched and passed, and which stained address is told.
+use addressing::{fetch, pass, read_operand};
+use alu::Operation;
+use bus::{Bus, BusRefusal, Cause, Ram};
+use decode::{Base, Form, Instruction, Mode};
+use reading::{BusReader, Fault};
+use registers::Cpu;
+use std::test::Fail;
+
+// From DRP, R42, a multi form spans six registers.
+fn cpu(pc: u16) -> Cpu {
+    let mut cpu = Cpu::new(pc, 0x0400);
+    cpu.drp = 0o42;
+    cpu
+}
+
+fn literal(indirect: bool) -> Option<Mode> {
+    let base = Base::Literal;
+    Some(Mode::Memory { base, indirect })
+}
+
+// How many bytes follow a code: none, an offset, an address, or as many as the data.
+#[test]
+fn lengths(rt: HostRuntime) -> Result<(), Fail> {
+    let bytes = vec![in rt.alloc(); 9u8; 16]?;
+    let mut ram = Ram { base: 0, bytes };
+    let table = [
+        (0x22, 1),
+        (0x9E, 1),
+        (0xE9, 1),
+        (0xF7, 2),
+        (0xA8, 2),
+        (0xCE, 3),
+        (0xC6, 3),
+        (0xB2, 3),
+        (0xBD, 3),
+        (0xA9, 7),
+        (0xC9, 7),
+    ];
+    for (code, length) in table {
+        assert_eq!(rt; ram.store(0, code), Ok(()));
+        let mut cpu = cpu(0);
+        let fetched = fetch(&mut BusReader::new(&ram, &[]), &cpu)?;
+        assert_eq!(rt; fetched.length(), length, "code {code:02X}");
+        pass(&mut cpu, &fetched);
+        assert_eq!(rt; cpu.pc(), u16::from(length), "code {code:02X}");
+    }
+    Ok(())
+}
+
+// LDB by a literal address: its code stands at 65,534, the address at 65,535 and 0.
+#[test]
+fn across_the_last_address(rt: HostRuntime) -> Result<(), Fail> {
+    let bytes = vec![in rt.alloc(); 0x12u8; 65_536]?;
+    let mut ram = Ram { base: 0, bytes };
+    assert_eq!(rt; ram.store(65_534, 0xB0), Ok(()));
+    assert_eq!(rt; ram.store(65_535, 0x34), Ok(()));
+    let mut after = cpu(65_534);
+    let fetched = fetch(&mut BusReader::new(&ram, &[]), &after)?;
+    let load = Instruction::Compute(Operation::Load, literal(false), Form::Byte);
+    assert_eq!(rt; fetched.instruction, load);
+    assert!(rt; fetched.literal.as_slice() == [0x34, 0x12].as_slice());
+    pass(&mut after, &fetched);
+    assert_eq!(rt; after, cpu(1));
+    Ok(())
+}
+
+// An illegal code is refused before a byte after it is asked for; a legal one for the first byte that is not there.
+#[test]
+fn refused(rt: HostRuntime) -> Result<(), Fail> {
+    let bytes = vec![in rt.alloc(); 0xD6u8; 2]?;
+    let mut ram = Ram { base: 0, bytes };
+    let illegal = fetch(&mut BusReader::new(&ram, &[]), &cpu(1));
+    assert!(rt; illegal.is_err_and(|fault| fault == Fault::Illegal { code: 0xD6 }));
+    assert_eq!(rt; ram.store(0, 0xB2), Ok(()));
+    let cut_off = fetch(&mut BusReader::new(&ram, &[]), &cpu(0));
+    let refusal = BusRefusal::here(Cause::NoByte);
+    assert!(rt;
+        cut_off.is_err_and(|fault| fault
+            == Fault::Bus {
+                address: 2,
+                refusal
+            })
+    );
+    Ok(())
+}
+
+// A sheet of the first 64 addresses.
+fn sheet(stained: &[u16]) -> [u8; 8] {
+    let mut sheet = [0; 8];
+    for address in stained {
+        sheet[usize::from(address / 8 % 8)] |= 1 << (address % 8);
+    }
+    sheet
+}
+
+// LDM by a literal address, indirect: its code at 16, the pointer at 32, and six bytes from 48 on. The first stained address
+// of these is told, in the order in which they are read, and no other.
+#[test]
+fn told(rt: HostRuntime) -> Result<(), Fail> {
+    let bytes = vec![in rt.alloc(); 0u8; 64]?;
+    let mut ram = Ram { base: 0, bytes };
+    for (address, byte) in [(16, 0xB9), (17, 32), (32, 48)] {
+        assert_eq!(rt; ram.store(address, byte), Ok(()));
+    }
+    let table: [(&[u16], Option<u16>); 8] = [
+        (&[], None),
+        (&[48, 32, 16], Some(16)),
+        (&[48, 32, 18], Some(18)),
+        (&[48, 33], Some(33)),
+        (&[53, 50], Some(50)),
+        (&[53], Some(53)),
+        (&[54, 47, 34, 31], None),
+        (&[19, 15, 4], None),
+    ];
+    for (stained, told) in table {
+        let sheet = sheet(stained);
+        let mut reader = BusReader::new(&ram, &sheet);
+        let cpu = cpu(16);
+        let fetched = fetch(&mut reader, &cpu)?;
+        let read = read_operand(
+            &mut reader,
+            &cpu,
+            literal(true),
+            Form::Multi,
+            &fetched.literal,
+        )?;
+        assert_eq!(rt; read.count(), 6);
+        assert_eq!(rt; reader.told, told);
+    }
+    Ok(())
+}
