@@ -1,13 +1,18 @@
 -- Loading a cold exchange.
 use Rattle.std.specs.Prelude.{ℕ, ◌+◌, cond, List, length, Ok, Err, Result, ◌==◌, nat_le}
 use Rattle.bus.specs.Meaning.{Meaning, loaded}
+use Rattle.noninterference.specs.declared.refusal.Description.{Description}
+use Rattle.noninterference.specs.declared.refusal.Detail.TheVariants.{None}
 use Rattle.engine.specs.declared.cold.LoadFault.{LoadFault}
 use Rattle.engine.specs.declared.cold.LoadFault.TheVariants.{Empty, PastMemory}
 
--- Both are refusal 13.
+-- Both are refusal 13, without a detail.
+abbrev pub load_described : LoadFault → Description
+load_described Empty = record { number = 13; detail = None }
+load_described PastMemory = record { number = 13; detail = None }
+
 abbrev pub load_number : LoadFault → ℕ
-load_number Empty = 13
-load_number PastMemory = 13
+load_number f = (load_described f).number
 
 -- A load of no bytes is refused, then one that passes the memory's end.
 abbrev pub load_answer : ℕ → ℕ → ℕ → Result (Unit {0}) LoadFault

@@ -5,4 +5,5 @@ mod cold;
 mod live;
 
 pub use cold::{Cold, LoadFault};
-pub use live::{Live, ReadOut};
+pub use live::running::Report;
+pub use live::{Live, ReadOut, SHEET_SIZE};

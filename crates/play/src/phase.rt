@@ -40,7 +40,7 @@ impl Phase {
             }
             (Phase::Loading(exchange), Record::Go { pc, return_pointer }) => {
                 Ok((
-                    Phase::InService(exchange.go(pc, return_pointer)),
+                    Phase::InService(exchange.go(memory, pc, return_pointer)),
                     Event::Began,
                 ))
             }

@@ -4,7 +4,7 @@ use Rattle.registers.specs.State.{pc_of}
 use Rattle.noninterference.specs.declared.refusal.Refusal.{Refusal}
 use Rattle.noninterference.specs.declared.refusal.StepFault.TheVariants.{Sheet}
 use Rattle.noninterference.specs.Steps.{State as ExchangeState, Ran, run}
-use Rattle.engine.specs.declared.running.Report.{Report}
+use Rattle.engine.specs.declared.live.running.Report.{Report}
 use Rattle.engine.specs.Machine.{machine}
 
 abbrev pub reported : Ran machine → Report

@@ -1,4 +1,4 @@
-use Rattle.std.proofs.Common.{◌≡◌, ◌-◌, ◌≤◌}
+use Rattle.std.proofs.Common.{◌≡◌, ◌-◌}
 use Rattle.noninterference.specs.declared.answer.Letter.TheVariants.{Done}
 use Rattle.noninterference.specs.Steps.{tries, last_letter, summed, run}
 use Rattle.engine.specs.Machine.{machine}
@@ -10,7 +10,6 @@ abbrev pub invariant-loop-i : goal.invariant-loop-i
 invariant-loop-i g l =
     let meaning = g.B.Bus.meaning in
     let now = in_service l.self l.sheet (meaning l.bus) in
-    (l.done ≤ l._i)
-    × (last_letter machine l.last ≡ Done)
-    × (summed machine l.done l.last now (tries machine (l.n - l._i) now) ≡ run machine l.n (in_service l.initial.self l.initial.sheet (meaning l.initial.bus)))
+    (last_letter machine l.last ≡ Done)
+    × (summed machine l.i l.last now (tries machine (l.n - l.i) now) ≡ run machine l.n (in_service l.initial.self l.initial.sheet (meaning l.initial.bus)))
     × (g.B.Bus.held l.bus ≡ g.B.Bus.held l.initial.bus)

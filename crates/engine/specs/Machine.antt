@@ -1,13 +1,11 @@
 -- The HP-87 processor as a processor of steps and rings.
-use Rattle.std.specs.Prelude.{ℕ, List, Some, None, Option, ◌==◌}
+use Rattle.std.specs.Prelude.{ℕ, List, Option, ◌==◌}
 use Rattle.bus.specs.Meaning.{Meaning}
-use Rattle.registers.specs.declared.cpu.Cpu.{Cpu}
 use Rattle.registers.specs.Differences.{mar_of}
-use Rattle.registers.specs.Model.{state_of}
 use Rattle.registers.specs.State.{State, pc_of}
 use Rattle.decode.specs.declared.instruction.Base.TheVariants.{Literal}
 use Rattle.reading.specs.Trees.{Tree, bind}
-use Rattle.reading.specs.Readings.{pair_tree}
+use Rattle.reading.specs.Readings.{row_tree}
 use Rattle.execute.specs.Plans.{Plan, settled}
 use Rattle.execute.specs.States.{return_pointer}
 use Rattle.execute.specs.Instructions.{called, plan_tree}
@@ -15,9 +13,9 @@ use Rattle.stains.specs.Stores.{upward}
 use Rattle.noninterference.specs.Processors.{Processor}
 use Rattle.noninterference.specs.Steps.{State as ExchangeState}
 
--- A ring acts as JSB to the pair at the vector.
+-- A ring acts as JSB to the pair at the vector: as if the two bytes there stood after the code of a literal JSB.
 abbrev pub jump_tree : ℕ → State → Tree Plan
-jump_tree v s = bind (pair_tree v) (λ a. settled (called Literal s 0 a))
+jump_tree v s = bind (row_tree 2 v) (λ ls. settled (called Literal s ls))
 
 abbrev pub machine : Processor
 machine = record {
@@ -37,7 +35,3 @@ machine = record {
 -- An exchange in service by its parts.
 abbrev pub at_service : State → Option State → List ℕ → Meaning → ExchangeState machine
 at_service s visit sheet m = record { cpu = s; visit = visit; sheet = sheet; meaning = m }
-
-abbrev pub copy_of : Option Cpu → Option State
-copy_of None = None
-copy_of (Some c) = Some (state_of c)
