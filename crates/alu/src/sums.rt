@@ -1,6 +1,7 @@
 // Sums and differences in the counting of the mode, and whether they overflow.
-ghost use Rattle.std.specs.Prelude.{◌≡◌, false, if◌then◌else◌};
-ghost use Rattle.counting.specs.Chain.{row_of, carry_of};
+ghost use Rattle.std.specs.Prelude.{◌≡◌, ◌<◌, ◌≤◌, ◌^◌, false, [], ◌∷◌, length, if◌then◌else◌};
+ghost use Rattle.counting.specs.Chain.{row_of, carry_of, Whole, Counts};
+ghost use Rattle.counting.specs.System.{Lawful, number};
 ghost use Rattle.alu.specs.Sums.{system_of, overflow_of, signs_of};
 
 use crate::status::is_negative;
@@ -33,6 +34,8 @@ fn overflows(op: Link, a: bool, b: bool, outcome: bool) -> bool
 pub fn combine(decimal: bool, op: Link, bytes: &mut [u8], operand: &[u8]) -> Carried
     ensures row { bytes.new ≡ row_of (system_of decimal) op bytes.old operand.now false }
     ensures carry { result.carry ≡ carry_of (system_of decimal) op bytes.old operand.now false }
+    ensures whole { Lawful (system_of decimal) bytes.old → Lawful (system_of decimal) operand.now → length operand.now ≤ length bytes.old → Whole (system_of decimal) op bytes.old operand.now false bytes.new result.carry }
+    ensures one { Lawful (system_of decimal) bytes.old → 0 < length bytes.old → operand.now ≡ 1 ∷ [] → Counts op ((system_of decimal).base ^ length bytes.old) (number (system_of decimal) bytes.old) (number (system_of decimal) bytes.new) result.carry }
     ensures overflow { result.overflow ≡ (if decimal then false else overflow_of op bytes.old operand.now) }
 {
     if decimal {

@@ -1,5 +1,5 @@
 -- Chains in whole numbers, for any counting that keeps its laws.
-use Rattle.std.proofs.Common.{◌≡◌, ℕ, suc, ◌+◌, ◌*◌, ◌/◌, ◌%◌, ◌^◌, ◌<◌, ◌≤◌, Bool, true, false, List, [], ◌∷◌, length, sym, refl, ap, ◌∙◌, mul_assoc, mul_comm, mul-le-mul_left, one-mul, pow-suc, mul-zero, mul-one, mul-suc, mul-add, length-drop, zero-add, arith}
+use Rattle.std.proofs.Common.{◌≡◌, ℕ, suc, ◌+◌, ◌-◌, ◌*◌, ◌/◌, ◌%◌, ◌^◌, ◌<◌, ◌≤◌, Bool, true, false, List, [], ◌∷◌, length, sym, refl, ap, ◌∙◌, mul_assoc, mul_comm, mul-le-mul_left, one-mul, pow-suc, mul-zero, mul-one, mul-suc, mul-add, length-drop, zero-add, arith}
 use Rattle.std.proofs.lemmas.List.{nil_from_length}
 use native.Mathlib.Nat.{pow-zero}
 use Rattle.std.proofs.lemmas.Nat.{div-mul-add, mod-mul-add}
@@ -7,7 +7,7 @@ use Rattle.std.proofs.lemmas.Bool.Decides.{nat_tests}
 use Rattle.counting.specs.declared.Link.{Link}
 use Rattle.counting.specs.declared.Link.TheVariants.{Add, Subtract, Negate, Complement}
 use Rattle.counting.specs.System.{System, Laws, bit, number, Lawful}
-use Rattle.counting.specs.Chain.{linked, first, others, row_of, carry_of, Numbers, Whole}
+use Rattle.counting.specs.Chain.{linked, first, others, row_of, carry_of, Numbers, Whole, one, Counts}
 
 -- What ties the number out to those in, at the power p of the base.
 abbrev pub Balance : Link → ℕ → ℕ → ℕ → Bool → ℕ → Bool → Type 0
@@ -42,6 +42,14 @@ numbers_of Subtract p a b n c d h e = less p a b n c d h e
 numbers_of Negate p a b n c d h e = rw zero-add at (less p 0 a n c d h (omega (arith, e)))
 numbers_of Complement p a b n c d h e = (omega (arith, e.0), e.1)
 
+counts_of : (l : Link) (p a b n : ℕ) (d : Bool) → n < p → a < p → b ≡ 1 → Balance l p a b false n d → Counts l p a n d
+counts_of Add p a b n true h k e f = ((parts n p 1 (a + 1) h (omega (arith, e, f))).0, grind (arith, nat_tests, mul-one p))
+counts_of Add p a b n false h k e f = ((parts n p 0 (a + 1) h (omega (arith, e, f))).0, grind (arith, nat_tests, mul-zero p))
+counts_of Subtract p a b n true h k e f = ((parts n p 0 (a + p - 1) h (omega (arith, e, f, mul-one p, mul-zero p))).0, grind (arith, nat_tests, mul-one p))
+counts_of Subtract p a b n false h k e f = ((parts n p 1 (a + p - 1) h (omega (arith, e, f, mul-one p, mul-zero p))).0, grind (arith, nat_tests, mul-zero p))
+counts_of Negate p a b n d h k e f = tt
+counts_of Complement p a b n d h k e f = tt
+
 module _ (s : System) (w : Laws s) where
   zero_lawful : s.lawful 0 ≡ true
   zero_lawful = ap s.lawful (sym w.zero_byte) ∙ w.byte_lawful 0 (omega (arith, w.two_values))
@@ -60,6 +68,9 @@ module _ (s : System) (w : Laws s) where
   number_first : (ys : List ℕ) → number s ys ≡ s.value (first ys) + s.base * number s (others ys)
   number_first [] = omega (arith, zero_value, mul-zero s.base)
   number_first (y ∷ ys) = refl
+
+  one_number : number s (one s) ≡ 1
+  one_number = omega (arith, w.byte_value 1 w.two_values, mul-zero s.base)
 
   -- lawful bytes stand for a number below the base's power
   pub number_below : (xs : List ℕ) → Lawful s xs → number s xs < s.base ^ length xs
@@ -106,3 +117,10 @@ module _ (s : System) (w : Laws s) where
 
     pub whole : (l : Link) (out : List ℕ) (d : Bool) → out ≡ row_of s l xs ys c → d ≡ carry_of s l xs ys c → Whole s l xs ys c out d
     whole l out d p q = rw (p, q) (row_lawful l xs ys c h k, numbers_of l _ _ _ _ c _ (row_below l) (balance l xs ys c h k short))
+
+  -- an operand that stands for 1 counts up or down
+  pub counts : (l : Link) (xs ys out : List ℕ) (c d : Bool) → Lawful s xs → 0 < length xs → ys ≡ one s → c ≡ false → out ≡ row_of s l xs ys c → d ≡ carry_of s l xs ys c → Counts l (s.base ^ length xs) (number s xs) (number s out) d
+  counts l xs ys out c d h long e f p q =
+      let k : Lawful s (one s) = (w.byte_lawful 1 w.two_values, tt) in
+      let short : length (one s) ≤ length xs = omega arith in
+      rw (p, q, e, f) (counts_of l _ _ _ _ _ (row_below xs (one s) false h k short l) (number_below xs h) one_number (balance l xs (one s) false h k short))

@@ -1,5 +1,5 @@
 -- What a chain over a row of bytes comes to, byte by byte and in whole numbers.
-use Rattle.std.specs.Prelude.{◌≡◌, ℕ, ◌+◌, ◌-◌, ◌/◌, ◌%◌, ◌^◌, Bool, not, List, [], ◌∷◌, length, Option, position, drop, slice_index, nat_lt}
+use Rattle.std.specs.Prelude.{◌≡◌, ℕ, ◌+◌, ◌-◌, ◌/◌, ◌%◌, ◌^◌, Bool, not, List, [], ◌∷◌, length, Option, position, drop, slice_index, ◌==◌, nat_lt}
 use Rattle.counting.specs.declared.Link.{Link}
 use Rattle.counting.specs.declared.Link.TheVariants.{Add, Subtract, Negate, Complement}
 use Rattle.counting.specs.System.{System, bit, number, Lawful}
@@ -39,6 +39,17 @@ Numbers Complement p a b c out d = (out ≡ p - 1 - a) × (d ≡ c)
 -- The bytes stay lawful, and their number is right.
 abbrev pub Whole : System → Link → List ℕ → List ℕ → Bool → List ℕ → Bool → Type 0
 Whole s l xs ys c out d = Lawful s out × Numbers l (s.base ^ length xs) (number s xs) (number s ys) c (number s out) d
+
+-- The operand that stands for 1.
+abbrev pub one : System → List ℕ
+one s = s.byte 1 ∷ []
+
+-- A number below p goes up or down by 1, around p; the carry says that it went around.
+abbrev pub Counts : Link → ℕ → ℕ → ℕ → Bool → Type 0
+Counts Add p a out d = (out ≡ (a + 1) % p) × (d ≡ (a + 1 == p))
+Counts Subtract p a out d = (out ≡ (a + p - 1) % p) × (d ≡ (a == 0))
+Counts Negate p a out d = Unit {0}
+Counts Complement p a out d = Unit {0}
 
 -- The place of the first byte that is not accepted.
 abbrev pub first_refused : System → List ℕ → Option ℕ

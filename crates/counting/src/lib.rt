@@ -1,9 +1,9 @@
 // Arithmetic on rows of bytes, low byte first, over any counting.
 #![tactic(auto)]
 
-ghost use Rattle.std.specs.Prelude.{◌≡◌, ◌≤◌, length, slice_index};
-ghost use Rattle.counting.specs.System.{System, Laws, Lawful};
-ghost use Rattle.counting.specs.Chain.{linked, row_of, carry_of, Whole, first_refused as refused_in};
+ghost use Rattle.std.specs.Prelude.{◌≡◌, ◌<◌, ◌≤◌, ◌^◌, false, length, slice_index};
+ghost use Rattle.counting.specs.System.{System, Laws, Lawful, number};
+ghost use Rattle.counting.specs.Chain.{linked, row_of, carry_of, Whole, one, Counts, first_refused as refused_in};
 
 pub mod binary;
 pub mod decimal;
@@ -68,6 +68,7 @@ pub fn chain<C: Counting>(op: Link, bytes: &mut [u8], operand: &[u8], mut carry:
     ensures row { bytes.new ≡ row_of C.Counting.system op bytes.old operand.now carry }
     ensures carry { result ≡ carry_of C.Counting.system op bytes.old operand.now carry }
     ensures whole { Lawful C.Counting.system bytes.old → Lawful C.Counting.system operand.now → length operand.now ≤ length bytes.old → Whole C.Counting.system op bytes.old operand.now carry bytes.new result }
+    ensures one { Lawful C.Counting.system bytes.old → 0 < length bytes.old → operand.now ≡ one C.Counting.system → carry ≡ false → Counts op (C.Counting.system.base ^ length bytes.old) (number C.Counting.system bytes.old) (number C.Counting.system bytes.new) result }
 {
     // The operand by its places: of a loop over a zip, a proof does not learn which bytes were written.
     for (i, d) in bytes.iter_mut().enumerate() {
