@@ -99,17 +99,24 @@ impl Row {
     }
 
     fn sum(self, other: Self, carry: bool, counting: Counting) -> Worked {
-        let sum = match counting {
-            Counting::Binary => u128::from(self.value) + u128::from(other.value) + u128::from(carry),
-            Counting::Decimal => decimal_sum(self.value, other.value, carry),
-        };
-        let row = self.with(sum as u64);
-        // The signed sum does not fit where both summands have the sign that it lacks.
-        let signs = (self.value ^ row.value) & (other.value ^ row.value);
-        Worked {
-            row,
-            carry: sum >> self.bits() != 0,
-            overflow: counting == Counting::Binary && self.with(signs).top_bit(),
+        match counting {
+            Counting::Binary => {
+                let (sum, first) = self.value.overflowing_add(other.value);
+                let (sum, second) = sum.overflowing_add(carry.into());
+                let row = self.with(sum);
+                // The signed sum does not fit where both summands have the sign that it lacks.
+                let signs = (self.value ^ row.value) & (other.value ^ row.value);
+                Worked { row, carry: first | second | (sum != row.value), overflow: self.with(signs).top_bit() }
+            }
+            Counting::Decimal => {
+                // With 6 more in each digit, a digit carries as four bits do; then the 6 is taken from those that did not.
+                let raised = self.value + in_each_digit(6);
+                let (sum, first) = raised.overflowing_add(other.value);
+                let (sum, second) = sum.overflowing_add(carry.into());
+                let carried = (raised ^ other.value ^ sum) >> 4 | u64::from(first | second) << 60;
+                let row = self.with(sum - 6 * (!carried & in_each_digit(1)));
+                Worked { row, carry: carried >> (self.bits() - 4) & 1 == 1, overflow: false }
+            }
         }
     }
 
@@ -137,17 +144,6 @@ impl Row {
 /// The number whose low `bytes` bytes are all ones.
 pub const fn ones(bytes: u32) -> u64 {
     u64::MAX >> (64 - 8 * bytes)
-}
-
-/// The sum of two numbers of sixteen decimal digits; a carry out is its digit 16.
-fn decimal_sum(a: u64, b: u64, carry: bool) -> u128 {
-    const SIXES: u128 = in_each_digit(6) as u128;
-    // With 6 more in each digit, a digit carries as a binary one does; then the 6 is taken from those that did not.
-    let (a, b) = (u128::from(a) + SIXES, u128::from(b));
-    let sum = a + b + u128::from(carry);
-    let carried = (a ^ b ^ sum) >> 4;
-    let kept = !carried & u128::from(in_each_digit(1));
-    sum - 6 * kept
 }
 
 #[cfg(test)]

@@ -1,7 +1,7 @@
 //! Exchanges, cold and live: step, ring and run, the sheet of stains, and visits.
 
 use crate::bus::Bus;
-use crate::processor::{self, Cpu, Done, Port};
+use crate::processor::{self, Cpu, Port};
 
 /// The size of a sheet: one bit for each address.
 pub const SHEET: usize = 8192;
@@ -80,6 +80,14 @@ pub struct Step {
     pub end: Option<End>,
 }
 
+/// What a step answers.
+pub type Answer = Result<Step, RefusedStep>;
+
+/// Whether a run goes on after a step that answers so.
+fn goes_on(answer: &Answer) -> bool {
+    matches!(answer, Ok(Step { told: None, end: None | Some(End::Clean), .. }))
+}
+
 /// How a visit ended.
 #[derive(Clone, Copy, Debug, PartialEq, Eq)]
 pub enum End {
@@ -93,7 +101,7 @@ pub enum End {
 #[derive(Clone, Copy, Debug, PartialEq, Eq)]
 pub struct Run {
     pub done: u16,
-    pub last: Option<Result<Step, RefusedStep>>,
+    pub last: Option<Answer>,
 }
 
 /// Why a run ended.
@@ -121,13 +129,23 @@ impl Run {
 struct Outside<'a, B> {
     bus: &'a mut B,
     sheet: &'a mut Sheet,
+    length: u8,
     told: Option<u16>,
+}
+
+impl<B> Outside<'_, B> {
+    #[cold]
+    fn tell(&mut self, address: u16) {
+        self.told = self.told.or(Some(address));
+    }
 }
 
 /// The bus as rings and steps within a visit have it: stores set stains.
 struct Within<'a, B> {
     bus: &'a mut B,
     sheet: &'a mut Sheet,
+    length: u8,
+    returned: bool,
 }
 
 fn at<T>(address: u16, answer: Result<T, crate::bus::Refusal>) -> Result<T, processor::Fault> {
@@ -139,7 +157,7 @@ impl<B: Bus> Port for Outside<'_, B> {
     fn read(&mut self, address: u16) -> Result<u8, processor::Fault> {
         let (byte, bit) = stain(address);
         if self.sheet[byte] & bit != 0 {
-            self.told = self.told.or(Some(address));
+            self.tell(address);
         }
         at(address, self.bus.read(address))
     }
@@ -156,6 +174,14 @@ impl<B: Bus> Port for Outside<'_, B> {
         self.sheet[byte] &= !bit;
         Ok(())
     }
+
+    #[inline]
+    fn passed(&mut self, length: u8) {
+        self.length = length;
+    }
+
+    #[inline]
+    fn returned(&mut self) {}
 }
 
 impl<B: Bus> Port for Within<'_, B> {
@@ -175,6 +201,16 @@ impl<B: Bus> Port for Within<'_, B> {
         let (byte, bit) = stain(address);
         self.sheet[byte] |= bit;
         Ok(())
+    }
+
+    #[inline]
+    fn passed(&mut self, length: u8) {
+        self.length = length;
+    }
+
+    #[inline]
+    fn returned(&mut self) {
+        self.returned = true;
     }
 }
 
@@ -221,9 +257,9 @@ impl Live {
     }
 
     /// Carries out the instruction at PC.
-    pub fn step<B: Bus>(&mut self, bus: &mut B, sheet: &mut [u8]) -> Result<Step, RefusedStep> {
+    pub fn step<B: Bus>(&mut self, bus: &mut B, sheet: &mut [u8]) -> Answer {
         match as_sheet(sheet) {
-            Ok(sheet) => self.step_on(bus, sheet),
+            Ok(sheet) => self.step_on(bus, sheet, |answer| answer),
             Err(fault) => Err(RefusedStep { refusal: self.refusal(fault), told: None }),
         }
     }
@@ -232,13 +268,10 @@ impl Live {
     pub fn run<B: Bus>(&mut self, steps: u16, bus: &mut B, sheet: &mut [u8]) -> Result<Run, Refusal> {
         let sheet = as_sheet(sheet).map_err(|fault| self.refusal(fault))?;
         let mut run = Run { done: 0, last: None };
-        while run.done < steps {
-            let answer = self.step_on(bus, sheet);
-            run.done += u16::from(answer.is_ok());
-            if !matches!(answer, Ok(Step { told: None, end: None | Some(End::Clean), .. })) || run.done == steps {
-                run.last = Some(answer);
-                break;
-            }
+        while run.last.is_none() && run.done < steps {
+            let is_last = run.done + 1 == steps;
+            run.last = self.step_on(bus, sheet, |answer| (is_last || !goes_on(&answer)).then_some(answer));
+            run.done += u16::from(!matches!(run.last, Some(Err(_))));
         }
         Ok(run)
     }
@@ -260,7 +293,7 @@ impl Live {
         if self.visit.is_some() {
             return Err(Fault::VisitOpen);
         }
-        let mut port = Within { bus, sheet };
+        let mut port = Within { bus, sheet, length: 0, returned: false };
         let handler = port.read_pair(vector.into())?;
         let before = self.cpu.clone();
         self.cpu.enter(handler, &mut port)?;
@@ -268,21 +301,30 @@ impl Live {
         Ok(())
     }
 
-    #[inline]
-    fn step_on<B: Bus>(&mut self, bus: &mut B, sheet: &mut Sheet) -> Result<Step, RefusedStep> {
+    /// Carries out the instruction at PC and hands what it answers to `then`; so a run need not keep each step's answer.
+    #[inline(always)]
+    fn step_on<B: Bus, T>(&mut self, bus: &mut B, sheet: &mut Sheet, then: impl FnOnce(Answer) -> T) -> T {
         let place = self.cpu.pc();
-        let (answer, told) = if self.visit.is_none() {
-            let mut port = Outside { bus, sheet, told: None };
-            (self.cpu.execute(&mut port), port.told)
-        } else {
-            (self.cpu.execute(&mut Within { bus, sheet }), None)
-        };
-        match answer {
-            Ok(Done { length, returned }) => {
-                let end = if returned { self.returned() } else { None };
-                Ok(Step { place, length, told, end })
+        let refusal = |fault: processor::Fault| Refusal { fault: fault.into(), place };
+        if self.visit.is_none() {
+            let mut port = Outside { bus, sheet, length: 0, told: None };
+            let answer = self.cpu.execute(&mut port);
+            let Outside { length, told, .. } = port;
+            match answer {
+                Ok(()) => then(Ok(Step { place, length, told, end: None })),
+                Err(fault) => then(Err(RefusedStep { refusal: refusal(fault), told })),
             }
-            Err(fault) => Err(RefusedStep { refusal: Refusal { fault: fault.into(), place }, told }),
+        } else {
+            let mut port = Within { bus, sheet, length: 0, returned: false };
+            let answer = self.cpu.execute(&mut port);
+            let Within { length, returned, .. } = port;
+            match answer {
+                Ok(()) => {
+                    let end = if returned { self.returned() } else { None };
+                    then(Ok(Step { place, length, told: None, end }))
+                }
+                Err(fault) => then(Err(RefusedStep { refusal: refusal(fault), told: None })),
+            }
         }
     }
 
@@ -326,7 +368,7 @@ mod tests {
         (0..=u16::MAX).filter(|&address| sheet[stain(address).0] & stain(address).1 != 0).collect()
     }
 
-    fn number(refused: Result<Step, RefusedStep>) -> u8 {
+    fn number(refused: Answer) -> u8 {
         refused.unwrap_err().refusal.fault.number()
     }
 

@@ -8,9 +8,6 @@ const SUM: u8 = 0o2;
 const PC: u8 = 0o4;
 const RETURN: u8 = 0o6;
 
-/// The code of RTN, the instruction that ends visits.
-const RTN: u8 = 0x9E;
-
 /// The 64 registers.
 #[derive(Clone, Debug, PartialEq, Eq)]
 pub struct Registers {
@@ -128,15 +125,6 @@ pub enum Fault {
     NotDecimal(u8),
 }
 
-/// An instruction that was carried out.
-#[derive(Clone, Copy, Debug, PartialEq, Eq)]
-pub struct Done {
-    /// Its length in bytes.
-    pub length: u8,
-    /// Whether it was RTN.
-    pub returned: bool,
-}
-
 /// An instruction's way to the bus.
 pub trait Port {
     fn read(&mut self, address: u16) -> Result<u8, Fault>;
@@ -144,6 +132,12 @@ pub trait Port {
     fn inquire(&self, address: u16) -> Result<(), Fault>;
 
     fn store(&mut self, address: u16, byte: u8) -> Result<(), Fault>;
+
+    /// Told when PC has passed an instruction of this length.
+    fn passed(&mut self, length: u8);
+
+    /// Told when RTN is done.
+    fn returned(&mut self);
 
     /// `bytes` bytes from `address` upward.
     #[inline]
@@ -283,7 +277,7 @@ impl Cpu {
 
     /// Carries out the instruction at PC. Where it is refused, the processor and the bus stay as they were.
     #[inline(always)]
-    pub fn execute(&mut self, port: &mut impl Port) -> Result<Done, Fault> {
+    pub fn execute(&mut self, port: &mut impl Port) -> Result<(), Fault> {
         let place = self.pc();
         let done = self.perform(place, port);
         if done.is_err() {
@@ -294,21 +288,23 @@ impl Cpu {
     }
 
     #[inline(always)]
-    fn perform(&mut self, place: u16, port: &mut impl Port) -> Result<Done, Fault> {
+    #[allow(clippy::manual_range_patterns)]
+    fn perform(&mut self, place: u16, port: &mut impl Port) -> Result<(), Fault> {
         let code = port.read(place)?;
         self.registers.set_pair(PC, place.wrapping_add(1));
-        let after = match code {
-            0xA0..=0xBF => self.transfer(code, port)?,
-            0xC6 | 0xCE => self.call(code, port)?,
-            0xD6 | 0xDE => return Err(Fault::Illegal(code)),
-            0xC0..=0xDF => self.combine(code, port)?,
-            0xF0..=0xFF => self.jump(code, port)?,
-            _ => {
-                self.alone(code, port)?;
-                0
-            }
-        };
-        Ok(Done { length: 1 + after as u8, returned: code == RTN })
+        port.passed(1);
+        // Single numbers, not ranges: only these become one jump through a table.
+        match code / 16 {
+            0x0 | 0x1 | 0x2 | 0x3 => self.arp = self.pointer(code),
+            0x4 | 0x5 | 0x6 | 0x7 => self.drp = self.pointer(code),
+            0x8 => self.operate(code)?,
+            0x9 => self.control(code, port)?,
+            0xA | 0xB => self.transfer(code, port)?,
+            0xC | 0xD => self.combine(code, port)?,
+            0xE => self.stack(code, port)?,
+            _ => self.jump(code, port)?,
+        }
+        Ok(())
     }
 
     /// Reads what follows the code, and passes PC over it.
@@ -317,24 +313,22 @@ impl Cpu {
         let place = self.pc();
         let literal = port.read_row(place, bytes)?.value;
         self.registers.set_pair(PC, place.wrapping_add(bytes as u16));
+        port.passed(1 + bytes as u8);
         Ok(literal)
     }
 
-    /// The instructions of one byte.
+    /// Codes 90 to 9F.
     #[inline(always)]
-    fn alone(&mut self, code: u8, port: &mut impl Port) -> Result<(), Fault> {
+    fn control(&mut self, code: u8, port: &mut impl Port) -> Result<(), Fault> {
         match code {
-            0x00..=0x3F => self.arp = self.pointer(code),
-            0x40..=0x7F => self.drp = self.pointer(code),
             0x98 => self.status.dcm = false,
             0x99 => self.status.dcm = true,
             0x9A => self.save_status(port)?,
             0x9B => self.e = self.e.wrapping_sub(1) % 16,
             0x9C => self.e = (self.e + 1) % 16,
             0x9D => self.e = 0,
-            RTN => self.return_from(port)?,
+            0x9E => self.return_from(port)?,
             0x9F => self.restore_status(port)?,
-            0xE0..=0xFF => self.stack(code, port)?,
             _ => self.operate(code)?,
         }
         Ok(())
@@ -348,11 +342,13 @@ impl Cpu {
         }
     }
 
+    #[inline]
     fn data(&self, bytes: u32) -> Row {
         self.registers.row(self.drp, bytes)
     }
 
     /// Sets the status by a result.
+    #[inline]
     fn judge(&mut self, row: Row, cy: bool, ovf: bool) {
         self.status = Status {
             dcm: self.status.dcm,
@@ -367,20 +363,22 @@ impl Cpu {
     }
 
     /// Writes a result to the data registers and sets the status by it.
+    #[inline]
     fn conclude(&mut self, row: Row, cy: bool, ovf: bool) {
         self.registers.set_row(self.drp, row);
         self.judge(row, cy, ovf);
     }
 
+    #[inline]
     fn conclude_work(&mut self, Worked { row, carry, overflow }: Worked) {
         self.conclude(row, carry, overflow);
     }
 
     /// In decimal mode a row must have decimal digits; `first` is the index of its first byte.
     fn checked(&self, row: Row, first: u8) -> Result<Row, Fault> {
-        match row.not_decimal() {
-            Some(index) if self.status.dcm => Err(Fault::NotDecimal(first + index)),
-            _ => Ok(row),
+        match self.counting() {
+            Counting::Binary => Ok(row),
+            Counting::Decimal => row.not_decimal().map_or(Ok(row), |index| Err(Fault::NotDecimal(first + index))),
         }
     }
 
@@ -457,18 +455,16 @@ impl Cpu {
         }
     }
 
-    /// LD and ST. Answers how many bytes follow the code.
+    /// LD and ST.
     #[inline(always)]
-    fn transfer(&mut self, code: u8, port: &mut impl Port) -> Result<u32, Fault> {
+    fn transfer(&mut self, code: u8, port: &mut impl Port) -> Result<(), Fault> {
         let (mode, bytes) = (Mode::of_transfer(code), self.span(code));
-        let after = mode.literal(bytes);
-        let literal = self.fetch(after, port)?;
+        let literal = self.fetch(mode.literal(bytes), port)?;
         if code & 2 == 0 {
-            self.load(mode, bytes, literal, port)?;
+            self.load(mode, bytes, literal, port)
         } else {
-            self.store(mode, bytes, literal, port)?;
+            self.store(mode, bytes, literal, port)
         }
-        Ok(after)
     }
 
     #[inline(always)]
@@ -503,12 +499,16 @@ impl Cpu {
         Ok(())
     }
 
-    /// CM, AD, SB and AN. Answers how many bytes follow the code.
+    /// CM, AD, SB and AN.
     #[inline(always)]
-    fn combine(&mut self, code: u8, port: &mut impl Port) -> Result<u32, Fault> {
+    fn combine(&mut self, code: u8, port: &mut impl Port) -> Result<(), Fault> {
+        match code {
+            0xC6 | 0xCE => return self.call(code, port),
+            0xD6 | 0xDE => return Err(Fault::Illegal(code)),
+            _ => {}
+        }
         let (mode, bytes) = (Mode::of_operation(code), self.span(code));
-        let after = mode.literal(bytes);
-        let literal = self.fetch(after, port)?;
+        let literal = self.fetch(mode.literal(bytes), port)?;
         let (data, counting) = (self.data(bytes), self.counting());
         let operand = match mode {
             Mode::Register => self.registers.row(self.arp, bytes),
@@ -520,7 +520,7 @@ impl Cpu {
         };
         if code % 8 == 7 {
             self.conclude(Row { value: data.value & operand.value, bytes }, false, false);
-            return Ok(after);
+            return Ok(());
         }
         let (data, operand) = (self.checked(data, 0)?, self.checked(operand, 8)?);
         match code / 2 % 4 {
@@ -531,7 +531,7 @@ impl Cpu {
             1 => self.conclude_work(data.plus(operand, counting)),
             _ => self.conclude_work(data.minus(operand, counting)),
         }
-        Ok(after)
+        Ok(())
     }
 
     /// PO and PU.
@@ -557,24 +557,24 @@ impl Cpu {
         Ok(())
     }
 
-    /// A jump. Answers how many bytes follow the code.
+    /// A jump.
     #[inline(always)]
-    fn jump(&mut self, code: u8, port: &mut impl Port) -> Result<u32, Fault> {
+    fn jump(&mut self, code: u8, port: &mut impl Port) -> Result<(), Fault> {
         let offset = self.fetch(1, port)? as u8 as i8;
         if self.holds(code) {
             self.registers.set_pair(PC, self.pc().wrapping_add(offset as u16));
         }
-        Ok(1)
+        Ok(())
     }
 
-    /// JSB. Answers how many bytes follow the code.
-    fn call(&mut self, code: u8, port: &mut impl Port) -> Result<u32, Fault> {
+    /// JSB.
+    fn call(&mut self, code: u8, port: &mut impl Port) -> Result<(), Fault> {
         let literal = self.fetch(2, port)?;
         let mode = if code == 0xC6 { Mode::IndexedDirect } else { Mode::LiteralDirect };
         let Found { address, sum } = self.find(mode, literal, port)?;
         self.enter(address, port)?;
         self.keep_sum(sum);
-        Ok(2)
+        Ok(())
     }
 
     /// Stores PC at the return pointer, raises that, and goes to `address`.
@@ -588,6 +588,7 @@ impl Cpu {
     fn return_from(&mut self, port: &mut impl Port) -> Result<(), Fault> {
         let address = self.pull(2, port)?;
         self.registers.set_pair(PC, address.value as u16);
+        port.returned();
         Ok(())
     }
 
@@ -664,11 +665,15 @@ mod tests {
     use super::*;
 
     /// All addresses, each with a byte; none refuses.
-    struct Flat(Vec<u8>);
+    struct Flat {
+        memory: Vec<u8>,
+        length: u8,
+        returned: bool,
+    }
 
     impl Port for Flat {
         fn read(&mut self, address: u16) -> Result<u8, Fault> {
-            Ok(self.0[usize::from(address)])
+            Ok(self.memory[usize::from(address)])
         }
 
         fn inquire(&self, _: u16) -> Result<(), Fault> {
@@ -676,8 +681,16 @@ mod tests {
         }
 
         fn store(&mut self, address: u16, byte: u8) -> Result<(), Fault> {
-            self.0[usize::from(address)] = byte;
+            self.memory[usize::from(address)] = byte;
             Ok(())
+        }
+
+        fn passed(&mut self, length: u8) {
+            self.length = length;
+        }
+
+        fn returned(&mut self) {
+            self.returned = true;
         }
     }
 
@@ -685,7 +698,7 @@ mod tests {
         fn with(address: u16, bytes: &[u8]) -> Self {
             let mut memory = vec![0; 65_536];
             memory[usize::from(address)..][..bytes.len()].copy_from_slice(bytes);
-            Self(memory)
+            Self { memory, length: 0, returned: false }
         }
 
         fn pair(&mut self, address: u16) -> u16 {
@@ -746,8 +759,8 @@ mod tests {
                 _ => Some(1),
             };
             let mut cpu = Cpu { drp: 0o45, ..Cpu::new(CODE, 0x0400) };
-            let done = cpu.execute(&mut Flat::with(CODE, &[code]));
-            assert_eq!(done.ok().map(|done| done.length), length, "{code:02X}");
+            let mut memory = Flat::with(CODE, &[code]);
+            assert_eq!(cpu.execute(&mut memory).ok().map(|()| memory.length), length, "{code:02X}");
         }
     }
 
@@ -840,7 +853,7 @@ mod tests {
         for (code, loaded) in cases {
             let mut memory = Flat::with(CODE, code);
             for (address, pair) in [(0x2000, 0x2100), (0x2008, 0x2200), (0x2100, 0x1111), (0x2200, 0x2222_u16)] {
-                memory.0[address..address + 2].copy_from_slice(&pair.to_le_bytes());
+                memory.memory[address..address + 2].copy_from_slice(&pair.to_le_bytes());
             }
             let mut cpu = Cpu { arp: 0o30, drp: 0o10, ..Cpu::new(CODE, 0) };
             cpu.registers.set_pair(0o30, 0x2000);
@@ -876,7 +889,7 @@ mod tests {
             [(0xE5, 0x2002, 0x2000), (0xE7, 0x1FFE, 0x1FFE), (0xED, 0x2002, 0x2100), (0xEF, 0x1FFE, 0x2200)];
         for (code, pair, address) in cases {
             let mut memory = Flat::with(CODE, &[code]);
-            memory.0[0x1FFE..0x2002].copy_from_slice(&[0x00, 0x22, 0x00, 0x21]);
+            memory.memory[0x1FFE..0x2002].copy_from_slice(&[0x00, 0x22, 0x00, 0x21]);
             let mut cpu = Cpu { arp: 0o12, drp: 0o12, ..Cpu::new(CODE, 0) };
             cpu.registers.set_pair(0o12, 0x2000);
             cpu.execute(&mut memory).unwrap();
@@ -890,7 +903,7 @@ mod tests {
         let mut cpu = Cpu { arp: 0o12, drp: 0o12, ..Cpu::new(CODE, 0) };
         cpu.registers.set_pair(0o12, 0x2000);
         let mut memory = Flat::with(CODE, &[0xE1]);
-        memory.0[0x2000] = 0x34;
+        memory.memory[0x2000] = 0x34;
         cpu.execute(&mut memory).unwrap();
         assert_eq!(cpu.registers.pair(0o12), 0x0034);
     }
@@ -912,8 +925,10 @@ mod tests {
         let mut memory = carry_out(&mut cpu, &[0xC6, 0x05, 0x00]);
         assert_eq!((cpu.pc(), cpu.return_pointer(), cpu.registers.pair(SUM)), (0x2005, 0x0402, 0x2005));
         assert_eq!(memory.pair(0x0400), CODE + 3);
-        memory.0[0x2005] = RTN;
-        assert_eq!(cpu.execute(&mut memory), Ok(Done { length: 1, returned: true }));
+        assert!(!memory.returned);
+        memory.memory[0x2005] = 0x9E;
+        cpu.execute(&mut memory).unwrap();
+        assert!(memory.returned);
         assert_eq!((cpu.pc(), cpu.return_pointer()), (CODE + 3, 0x0400));
     }
 
@@ -922,10 +937,10 @@ mod tests {
         let status = Status { cy: true, z: true, msb: true, ..Status::default() };
         let mut cpu = Cpu { arp: 0o25, drp: 0o37, status, ..Cpu::new(0, 0x0400) };
         let mut memory = carry_out(&mut cpu, &[0x9A]);
-        assert_eq!(memory.0[0x0400..0x0403], [0o25 | 64, 0o37 | 128, 2]);
+        assert_eq!(memory.memory[0x0400..0x0403], [0o25 | 64, 0o37 | 128, 2]);
         assert_eq!(cpu.return_pointer(), 0x0403);
-        memory.0[0x0400..0x0403].copy_from_slice(&[0xFF, 0x41, 0xF4]);
-        memory.0[usize::from(cpu.pc())] = 0x9F;
+        memory.memory[0x0400..0x0403].copy_from_slice(&[0xFF, 0x41, 0xF4]);
+        memory.memory[usize::from(cpu.pc())] = 0x9F;
         cpu.execute(&mut memory).unwrap();
         assert_eq!((cpu.arp, cpu.drp, cpu.return_pointer()), (63, 1, 0x0400));
         assert_eq!(set_bits(&cpu), ["DCM", "CY", "OVF", "LDZ"]);
@@ -962,10 +977,10 @@ mod tests {
     fn addresses_wrap() {
         let mut cpu = Cpu { drp: 0o46, ..Cpu::new(0xFFFF, 0xFFFF) };
         let mut memory = Flat::with(0, &[0x34, 0x12, 0x9A]);
-        memory.0[0xFFFF] = 0xA9;
+        memory.memory[0xFFFF] = 0xA9;
         cpu.execute(&mut memory).unwrap();
         assert_eq!((cpu.registers.pair(0o46), cpu.pc()), (0x1234, 2));
         cpu.execute(&mut memory).unwrap();
-        assert_eq!((memory.0[0xFFFF], memory.0[0], cpu.return_pointer()), (0, 0o46, 2));
+        assert_eq!((memory.memory[0xFFFF], memory.memory[0], cpu.return_pointer()), (0, 0o46, 2));
     }
 }
