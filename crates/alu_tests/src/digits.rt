@@ -1,6 +1,6 @@
 // Bytes that are not decimal: the data is checked before the operand, and the row stays as it was.
-use crate::flags;
-use alu::{Operation, operate};
+use alu::{Flags, Operation, operate};
+use registers::Status;
 use std::process::Abort;
 
 fn refused(
@@ -10,8 +10,12 @@ fn refused(
     data: [u8; 3],
     operand: [u8; 3],
 ) -> Option<u8> {
+    let status = Status {
+        dcm,
+        ..Status::default()
+    };
     let mut row = data;
-    let refusal = operate(op, flags(dcm, 0), &mut row, &operand).err()?;
+    let refusal = operate(op, Flags { status, e: 0 }, &mut row, &operand).err()?;
     assert_eq!(rt; row, data);
     Some(refusal.index)
 }

@@ -1,254 +1,246 @@
-// Rows of one to eight bytes, as numbers in a u128.
-ghost use Rattle.std.specs.Prelude.{◌≤◌};
-
-use crate::flags;
+// Each operation on random rows.
+use crate::case::{Base, Case};
 use alu::{Flags, Operation, operate};
+use counting::binary::Binary;
+use counting::decimal::Decimal;
+use counting::{Link, chain};
+use registers::Status;
 use std::process::Abort;
 use std::test::Fail;
 
 const CASES: u32 = 1000;
 
-// The mode that a row counts in.
+// What an operation should leave: a number, read in this base, CY, OVF and E.
 #[derive(Clone, Copy, PartialEq, Eq, Debug)]
-enum Base {
-    Binary,
-    Decimal,
-}
-
-impl Base {
-    // How many numbers a byte stands for.
-    fn size(self) -> u128 {
-        match self {
-            Base::Binary => 256,
-            Base::Decimal => 100,
-        }
-    }
-
-    fn value(self, byte: u8) -> u128 {
-        match self {
-            Base::Binary => u128::from(byte),
-            Base::Decimal => u128::from(byte / 16) * 10 + u128::from(byte % 16),
-        }
-    }
-
-    // A byte that the mode accepts.
-    fn byte(self, seed: u64) -> u8 {
-        match self {
-            Base::Binary => ((seed >> 40) & 0xff) as u8,
-            Base::Decimal => {
-                let low = ((seed >> 40) % 10) as u8;
-                let high = ((seed >> 50) % 10) as u8;
-                16 * high + low
-            }
-        }
-    }
-
-    // How many numbers a row of so many bytes stands for.
-    fn whole(self, span: u32) -> u128 {
-        self.size().wrapping_pow(span)
-    }
-
-    fn number(self, row: &[u8]) -> u128 {
-        row.iter().rev().fold(0u128, |n, b| {
-            n.wrapping_mul(self.size()).wrapping_add(self.value(*b))
-        })
-    }
-
-    // What a shift moves by: a digit or a bit.
-    fn radix(self) -> u128 {
-        match self {
-            Base::Binary => 2,
-            Base::Decimal => 16,
-        }
-    }
-
-    // The digit or bit that a shift lost.
-    fn lost(self, told: Flags) -> u128 {
-        match self {
-            Base::Binary => u128::from(told.status.cy),
-            Base::Decimal => u128::from(told.e),
-        }
-    }
-}
-
-#[derive(Clone, Copy, PartialEq, Eq, Debug)]
-struct Case {
+struct Left {
     base: Base,
-    data: [u8; 8],
-    operand: [u8; 8],
-    span: usize,
-    digit: u8,
-    seed: u64,
-    ghost short: { span ≤ 8 },
-}
-
-fn next(seed: u64) -> u64 {
-    seed.wrapping_mul(6364136223846793005)
-        .wrapping_add(1442695040888963407)
-}
-
-fn fill(row: &mut [u8; 8], mut seed: u64, base: Base) -> u64 {
-    for b in row.iter_mut() {
-        seed = next(seed);
-        *b = base.byte(seed);
-    }
-    seed
+    number: u128,
+    cy: bool,
+    ovf: bool,
+    e: u8,
 }
 
 impl Case {
-    fn new(seed: u64, base: Base) -> Case {
-        let mut data = [0u8; 8];
-        let mut operand = [0u8; 8];
-        let seed = fill(&mut data, seed, base);
-        let seed = next(fill(&mut operand, seed, base));
-        Case {
-            base,
-            data,
-            operand,
-            span: 1 + ((seed >> 33) % 8) as usize,
-            digit: ((seed >> 20) % 10) as u8,
-            seed,
-        }
+    // A number that is at most once around.
+    fn around(&self, n: u128) -> u128 {
+        let whole = self.whole(self.base);
+        if n >= whole { n.wrapping_sub(whole) } else { n }
     }
 
-    fn data(&self) -> &[u8] {
-        &self.data[..self.span]
-    }
-
-    fn operand(&self) -> &[u8] {
-        &self.operand[..self.span]
-    }
-
-    // The data as a number in the mode.
-    fn number(&self) -> u128 {
-        self.base.number(self.data())
-    }
-
-    // How many numbers the bytes stand for.
-    fn whole(&self) -> u128 {
-        self.base.whole(self.span as u32)
-    }
-
-    // What a carry out of the bytes, or a borrow, counts for.
-    fn carried(&self, carry: bool) -> u128 {
-        if carry { self.whole() } else { 0 }
-    }
-
-    // The number that a stands for as a signed one, with `whole` added.
-    fn raised(&self, a: u128) -> u128 {
-        let whole = self.whole();
-        if a < whole / 2 {
-            a.wrapping_add(whole)
+    // What a number stands for as a signed one, with `whole` added.
+    fn raised(&self, n: u128) -> u128 {
+        let whole = self.whole(self.base);
+        if n < whole / 2 {
+            n.wrapping_add(whole)
         } else {
-            a
+            n
         }
     }
 
-    // Whether the sum of two raised numbers stands for a signed one that does not fit. In decimal nothing overflows.
-    fn overflows(&self, sum: u128) -> bool {
-        let whole = self.whole();
-        let low = whole.wrapping_mul(2).wrapping_sub(whole / 2);
-        self.base == Base::Binary && (sum < low || sum >= low.wrapping_add(whole))
+    // Whether the signed numbers do not add up. In decimal nothing overflows.
+    fn overflows(&self, a: u128, b: u128, sum: u128) -> bool {
+        let added = self.raised(a).wrapping_add(self.raised(b));
+        let whole = self.whole(self.base);
+        self.base == Base::Binary && added != self.raised(sum).wrapping_add(whole)
+    }
+
+    fn sum(&self, a: u128, b: u128) -> Left {
+        let all = a.wrapping_add(b);
+        let number = self.around(all);
+        Left {
+            base: self.base,
+            number,
+            cy: all != number,
+            ovf: self.overflows(a, b, number),
+            e: self.e,
+        }
+    }
+
+    fn difference(&self, a: u128, b: u128) -> Left {
+        let all = a.wrapping_add(self.whole(self.base)).wrapping_sub(b);
+        let number = self.around(all);
+        Left {
+            base: self.base,
+            number,
+            cy: a >= b,
+            ovf: self.overflows(number, b, a),
+            e: self.e,
+        }
+    }
+
+    // CY and OVF are 0; the number is read in a base.
+    fn plain(&self, base: Base, number: u128) -> Left {
+        Left {
+            base,
+            number,
+            cy: false,
+            ovf: false,
+            e: self.e,
+        }
+    }
+
+    // A shift loses a bit to CY or a digit to E.
+    fn shifted(&self, number: u128, lost: u128, turned: bool) -> Left {
+        let left = self.plain(Base::Binary, number);
+        match self.base {
+            Base::Binary => Left {
+                cy: lost == 1,
+                ovf: turned,
+                ..left
+            },
+            Base::Decimal => Left {
+                e: (lost % 16) as u8,
+                ..left
+            },
+        }
+    }
+
+    fn top(&self, n: u128) -> u128 {
+        n.wrapping_shr(self.bits().wrapping_sub(1))
+    }
+
+    fn up(&self, a: u128, radix: u128, incoming: u128) -> Left {
+        let whole = self.whole(Base::Binary);
+        let all = a.wrapping_mul(radix).wrapping_add(incoming);
+        let lost = all.wrapping_shr(self.bits());
+        let number = all.wrapping_sub(lost.wrapping_mul(whole));
+        self.shifted(number, lost, self.top(a) != self.top(number))
+    }
+
+    fn down(&self, a: u128, radix: u128, incoming: u128) -> Left {
+        let all = a.wrapping_add(incoming.wrapping_mul(self.whole(Base::Binary)));
+        let number = all.checked_div(radix).unwrap_or(0);
+        let lost = all.wrapping_sub(number.wrapping_mul(radix));
+        self.shifted(number, lost, false)
     }
 }
 
-// The case as an operation leaves its data, and what was told of it.
-fn result(op: Operation, case: &Case) -> Result<(Case, Flags), Fail> {
+// What is seen of a row of so many bits, by its number.
+fn seen(case: &Case, number: u128, left: Left) -> Status {
+    Status {
+        dcm: case.base == Base::Decimal,
+        cy: left.cy,
+        ovf: left.ovf,
+        lsb: number % 2 == 1,
+        msb: case.top(number) == 1,
+        z: number == 0,
+        ldz: number.wrapping_shr(case.bits().wrapping_sub(4)) == 0,
+        rdz: number % 16 == 0,
+    }
+}
+
+fn check(rt: &impl Abort, case: &Case, op: Operation, left: Left) -> Result<(), Fail> {
     let mut after = *case;
-    let before = flags(case.base == Base::Decimal, case.digit);
-    let told = operate(op, before, &mut after.data[..case.span], case.operand()).map_err(
-        |_| Fail::new("a byte was not accepted"),
-    )?;
-    Ok((after, told))
+    let told = operate(
+        op,
+        case.flags(),
+        &mut after.data[..case.span],
+        case.operand(),
+    )
+    .map_err(|_| Fail::new("a byte was not accepted"))?;
+    assert_eq!(rt;
+        left.base.number(after.data()),
+        left.number,
+        "{op:?} of {case:?}"
+    );
+    let status = seen(case, Base::Binary.number(after.data()), left);
+    assert_eq!(rt; told, Flags { status, e: left.e }, "{op:?} of {case:?}");
+    Ok(())
 }
 
 fn sums(rt: &impl Abort, case: &Case) -> Result<(), Fail> {
-    let a = case.number();
+    let a = case.base.number(case.data());
     let b = case.base.number(case.operand());
-    let (sum, told) = result(Operation::Add, case)?;
-    assert_eq!(rt;
-        sum.number().wrapping_add(case.carried(told.status.cy)),
-        a.wrapping_add(b)
-    );
-    let more = case.raised(a).wrapping_add(case.raised(b));
-    assert_eq!(rt; told.status.ovf, case.overflows(more));
-    let (difference, told) = result(Operation::Subtract, case)?;
-    assert_eq!(rt;
-        difference.number().wrapping_add(b),
-        a.wrapping_add(case.carried(!told.status.cy))
-    );
-    let less = case
-        .raised(a)
-        .wrapping_add(case.whole().wrapping_mul(2))
-        .wrapping_sub(case.raised(b));
-    assert_eq!(rt; told.status.ovf, case.overflows(less));
-    Ok(())
-}
-
-fn counts(rt: &impl Abort, case: &Case) -> Result<(), Fail> {
-    let a = case.number();
-    let (more, told) = result(Operation::Increment, case)?;
-    assert_eq!(rt;
-        more.number().wrapping_add(case.carried(told.status.cy)),
-        a.wrapping_add(1)
-    );
-    let (less, told) = result(Operation::Decrement, case)?;
-    assert_eq!(rt;
-        less.number().wrapping_add(1),
-        a.wrapping_add(case.carried(!told.status.cy))
-    );
-    let (negated, told) = result(Operation::Negate, case)?;
-    assert_eq!(rt;
-        negated.number().wrapping_add(a),
-        case.carried(!told.status.cy)
-    );
-    let (rest, told) = result(Operation::Complement, case)?;
-    assert_eq!(rt; told.status.cy, false);
-    assert_eq!(rt; rest.number().wrapping_add(a).wrapping_add(1), case.whole());
-    Ok(())
-}
-
-// A shift is seen in whole bytes, in either mode.
-fn shifts(rt: &impl Abort, case: &Case) -> Result<(), Fail> {
-    let radix = case.base.radix();
-    let a = Base::Binary.number(case.data());
-    let (up, told) = result(Operation::LogicalLeft, case)?;
-    let out = Base::Binary
-        .whole(case.span as u32)
-        .wrapping_mul(case.base.lost(told));
-    assert_eq!(rt;
-        Base::Binary.number(up.data()).wrapping_add(out),
-        a.wrapping_mul(radix)
-    );
-    let (down, told) = result(Operation::LogicalRight, case)?;
-    assert_eq!(rt;
-        Base::Binary
-            .number(down.data())
-            .wrapping_mul(radix)
-            .wrapping_add(case.base.lost(told)),
-        a
-    );
-    Ok(())
-}
-
-fn table(rt: &impl Abort, base: Base) -> Result<(), Fail> {
-    let mut seed = 20261118u64;
-    for _ in 0..CASES {
-        let case = Case::new(seed, base);
-        sums(rt, &case)?;
-        counts(rt, &case)?;
-        shifts(rt, &case)?;
-        seed = case.seed;
+    let rest = case.whole(case.base).wrapping_sub(a).wrapping_sub(1);
+    for (op, left) in [
+        (Operation::Increment, case.sum(a, 1)),
+        (Operation::Decrement, case.difference(a, 1)),
+        (Operation::Negate, case.difference(0, a)),
+        (Operation::Complement, case.plain(case.base, rest)),
+        (Operation::Add, case.sum(a, b)),
+        (Operation::Subtract, case.difference(a, b)),
+        (Operation::Compare, case.difference(a, b)),
+    ] {
+        check(rt, case, op, left)?;
     }
     Ok(())
 }
 
-#[test]
-fn binary(rt: HostRuntime) -> Result<(), Fail> {
-    table(&rt, Base::Binary)
+fn logic(rt: &impl Abort, case: &Case) -> Result<(), Fail> {
+    let a = Base::Binary.number(case.data());
+    let b = Base::Binary.number(case.operand());
+    for (op, number) in [
+        (Operation::Test, a),
+        (Operation::Clear, 0),
+        (Operation::Or, a | b),
+        (Operation::ExclusiveOr, a ^ b),
+        (Operation::And, a & b),
+        (Operation::Load, b),
+    ] {
+        check(rt, case, op, case.plain(Base::Binary, number))?;
+    }
+    Ok(())
+}
+
+fn shifts(rt: &impl Abort, case: &Case) -> Result<(), Fail> {
+    let a = Base::Binary.number(case.data());
+    let (radix, put) = match case.base {
+        Base::Binary => (2, u128::from(case.cy)),
+        Base::Decimal => (16, u128::from(case.e)),
+    };
+    for (op, left) in [
+        (Operation::LogicalLeft, case.up(a, radix, 0)),
+        (Operation::ExtendedLeft, case.up(a, radix, put)),
+        (Operation::LogicalRight, case.down(a, radix, 0)),
+        (Operation::ExtendedRight, case.down(a, radix, put)),
+    ] {
+        check(rt, case, op, left)?;
+    }
+    Ok(())
+}
+
+// Chains with a carry in, and an operand of half the data's length.
+fn chains(rt: &impl Abort, case: &Case) {
+    let carry = u128::from(case.cy);
+    let a = case.base.number(case.data());
+    let b = case.base.number(case.short_operand());
+    let rest = case.whole(case.base).wrapping_sub(a).wrapping_sub(1);
+    let sum = case.sum(a, b.wrapping_add(carry));
+    let difference = case.difference(a, b.wrapping_add(carry));
+    let negated = case.difference(0, a.wrapping_add(carry));
+    for (link, number, out) in [
+        (Link::Add, sum.number, sum.cy),
+        (Link::Subtract, difference.number, !difference.cy),
+        (Link::Negate, negated.number, !negated.cy),
+        (Link::Complement, rest, case.cy),
+    ] {
+        let mut after = *case;
+        let (row, operand) = (&mut after.data[..case.span], case.short_operand());
+        let carried = match case.base {
+            Base::Binary => chain::<Binary>(link, row, operand, case.cy),
+            Base::Decimal => chain::<Decimal>(link, row, operand, case.cy),
+        };
+        assert_eq!(rt;
+            case.base.number(after.data()),
+            number,
+            "{link:?} of {case:?}"
+        );
+        assert_eq!(rt; carried, out, "{link:?} of {case:?}");
+    }
 }
 
 #[test]
-fn decimal(rt: HostRuntime) -> Result<(), Fail> {
-    table(&rt, Base::Decimal)
+fn both_modes(rt: HostRuntime) -> Result<(), Fail> {
+    let mut seed = 20261118u64;
+    for _ in 0..CASES {
+        for base in [Base::Binary, Base::Decimal] {
+            let case = Case::new(seed, base);
+            sums(&rt, &case)?;
+            logic(&rt, &case)?;
+            shifts(&rt, &case)?;
+            chains(&rt, &case);
+            seed = case.seed;
+        }
+    }
+    Ok(())
 }
