@@ -18,7 +18,7 @@ use reading::{BusReader, Fault};
 use registers::Cpu;
 
 // A test and a comparison leave only status and E.
-fn keeps(op: Operation) -> bool
+pub fn keeps(op: Operation) -> bool
     ensures { result ≡ keeps_row op }
 {
     !matches!(op, Operation::Test | Operation::Compare)

@@ -11,5 +11,6 @@ mod saving;
 mod storing;
 
 pub use calls::call;
+pub use computing::keeps;
 pub use executed::Executed;
 pub use performing::carry_out;

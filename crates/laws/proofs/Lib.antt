@@ -1,0 +1,4 @@
+pub mod Ends
+pub mod Registers
+pub mod Worked
+pub mod Left
