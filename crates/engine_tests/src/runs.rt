@@ -1,0 +1,139 @@
+// How runs end.
+use crate::exchange::{VECTOR, begun};
+use engine::Report;
+use noninterference::Letter;
+use std::test::Fail;
+
+// What a run shows; the exchange's program, and its handler where it is rung first; the return pointer and the length of the run;
+// then how it ends: the letter, the steps done and the program counter.
+struct Case {
+    name: &'static str,
+    program: &'static [u8],
+    handler: Option<&'static [u8]>,
+    return_pointer: u16,
+    n: u16,
+    letter: Letter,
+    done: u16,
+    pc: u16,
+}
+
+// 88 is ICB, D6 illegal, 9E RTN; B0 reads R0 from a literal address, B1 R0 and R1; 05 sets ARP.
+const CASES: [Case; 10] = [
+    Case {
+        name: "two steps of three",
+        program: &[0x88, 0x88, 0x88],
+        handler: None,
+        return_pointer: 1024,
+        n: 2,
+        letter: Letter::Done,
+        done: 2,
+        pc: 258,
+    },
+    Case {
+        name: "no steps",
+        program: &[0x88],
+        handler: None,
+        return_pointer: 1024,
+        n: 0,
+        letter: Letter::Done,
+        done: 0,
+        pc: 256,
+    },
+    Case {
+        name: "the second step is refused",
+        program: &[0x88, 0xD6],
+        handler: None,
+        return_pointer: 1024,
+        n: 5,
+        letter: Letter::Refused,
+        done: 1,
+        pc: 257,
+    },
+    Case {
+        name: "the first step is refused",
+        program: &[0xD6],
+        handler: None,
+        return_pointer: 1024,
+        n: 1,
+        letter: Letter::Refused,
+        done: 0,
+        pc: 256,
+    },
+    Case {
+        name: "a visit ends clean, which ends no run",
+        program: &[0x88, 0x88],
+        handler: Some(&[0x9E]),
+        return_pointer: 1024,
+        n: 3,
+        letter: Letter::Done,
+        done: 3,
+        pc: 258,
+    },
+    Case {
+        name: "after the visit the second step reads where the ring stored",
+        program: &[0x88, 0xB0, 0x00, 0x04, 0x88],
+        handler: Some(&[0x9E]),
+        return_pointer: 1024,
+        n: 5,
+        letter: Letter::Told,
+        done: 3,
+        pc: 260,
+    },
+    Case {
+        name: "the same, as the last step of the run",
+        program: &[0x88, 0xB0, 0x00, 0x04, 0x88],
+        handler: Some(&[0x9E]),
+        return_pointer: 1024,
+        n: 3,
+        letter: Letter::Told,
+        done: 3,
+        pc: 260,
+    },
+    Case {
+        name: "a step that tells a stain is refused, since RAM ends after it",
+        program: &[0xB1, 0x5F, 0xEA],
+        handler: Some(&[0x9E]),
+        return_pointer: 59_998,
+        n: 5,
+        letter: Letter::Refused,
+        done: 1,
+        pc: 256,
+    },
+    Case {
+        name: "a visit ends marred",
+        program: &[0x88],
+        handler: Some(&[0x05, 0x9E]),
+        return_pointer: 1024,
+        n: 5,
+        letter: Letter::Marred,
+        done: 2,
+        pc: 256,
+    },
+    Case {
+        name: "the same, as the last step of the run",
+        program: &[0x88],
+        handler: Some(&[0x05, 0x9E]),
+        return_pointer: 1024,
+        n: 2,
+        letter: Letter::Marred,
+        done: 2,
+        pc: 256,
+    },
+];
+
+#[test]
+fn letters(rt: HostRuntime) -> Result<(), Fail> {
+    for case in &CASES {
+        let handler = case.handler.unwrap_or(&[]);
+        let mut exchange = begun(&rt, case.program, handler, case.return_pointer)?;
+        if case.handler.is_some() {
+            assert_eq!(rt; exchange.ring(VECTOR), Ok(()));
+        }
+        let Report { done, letter, last } = exchange.run(case.n)?;
+        assert_eq!(rt; (case.name, done), (case.name, case.done));
+        assert_eq!(rt; (case.name, letter), (case.name, case.letter));
+        assert_eq!(rt; last.is_none(), case.n == 0);
+        assert_eq!(rt; exchange.live.pc(), case.pc);
+    }
+    Ok(())
+}
