@@ -53,6 +53,9 @@ impl Tally {
         for line in String::from_utf8_lossy(printed).lines() {
             let words: Vec<&str> = line.split(' ').collect();
             let kind = match words[..] {
+                ["RU", _, "M", _, mar] if mar.parse::<u8>().map_or(false, |mar| mar < 64) => {
+                    "RU M register".to_string()
+                }
                 ["RU", _, letter @ ("R" | "M"), _, number] => format!("RU {letter} {number}"),
                 ["RU", _, letter, ..] => format!("RU {letter}"),
                 ["RI" | "NO", number, _] => format!("{} {number}", words[0]),

@@ -15,8 +15,10 @@ const RAM: usize = 32_768;
 /// Where programs, stacks, data and handlers like to be: by the ends of the guard, of RAM, of the line board and of all addresses too.
 const PROGRAMS: [u16; 8] = [0x0100, 0x1000, 0x1000, 0x1000, 0x00F8, 0x7FC0, 0x7FF0, 0x0000];
 const STACKS: [u16; 12] =
-    [0x0400, 0x0400, 0x0400, 0x0400, 0x0400, 0x0400, 0x7000, 0x7000, 0x00FC, 0x7FFC, 0x8004, 0xFFFE];
+    [0x0400, 0x0400, 0x0400, 0x0400, 0x0400, 0x0400, 0x7000, 0x00FC, 0x7FFC, 0x8004, 0x800F, 0xFFFE];
 const HANDLERS: [u16; 4] = [0x3000, 0x3100, 0x3200, 0x7F80];
+/// A subroutine of the handlers.
+const SUBROUTINE: u16 = 0x3300;
 const DATA: u16 = 0x2000;
 const POINTERS: u16 = 0x2080;
 const EDGES: [u16; 16] = [
@@ -35,6 +37,8 @@ const DCE: u8 = 0x9B;
 const ICE: u8 = 0x9C;
 const RTN: u8 = 0x9E;
 const PAD: u8 = 0x9F;
+/// JSB, literal.
+const JSB: u8 = 0xCE;
 /// ARP := R6, so that the return pointer moves.
 const ARP_R6: u8 = 0x06;
 /// DRP := the register that is added.
@@ -45,6 +49,8 @@ const POP: u8 = 0xE3;
 /// Multi ST, literal direct; multi LD, immediate. The byte forms are one less.
 const STORE: u8 = 0xB3;
 const LOAD: u8 = 0xA9;
+/// Multi LD, literal direct.
+const FETCH: u8 = 0xB1;
 
 /// How many steps one tape may take in all, but for its last run.
 const STEPS: usize = 3_000;
@@ -160,23 +166,23 @@ impl Author {
         }
         self.put_vectors();
         for handler in HANDLERS {
-            let code = self.handler();
+            let code = self.handler(pc);
             self.put(handler, &code);
         }
+        self.put(SUBROUTINE, &[SAD, BCD, ICE, DCE, PAD, RTN]);
 
         let mut live = Cold.go(pc, stack);
         let mut calls = Vec::new();
-        for _ in 0..2 + self.random.below(12) {
+        // Some tapes go by few steps at a time, which shows where two programs part.
+        let (most_calls, most_steps) = if self.random.one_in(6) { (100, 3) } else { (14, 125) };
+        for _ in 0..2 + self.random.below(most_calls) {
             if self.random.one_in(3) {
                 let record = self.any_ring();
                 // A ring that is refused changes nothing, here as there.
                 let _ = live.ring(record[2], &mut self.memory, &mut self.sheet);
                 calls.push(record);
             }
-            let steps = match self.random.below(8) {
-                0 => self.random.below(3),
-                _ => 5 + self.random.below(120),
-            };
+            let steps = self.random.below(most_steps + 1);
             let refused = self.serve(&mut live, steps);
             calls.push(run(steps as u16));
             if refused && !self.random.one_in(4) {
@@ -355,14 +361,16 @@ impl Author {
         }
     }
 
-    /// Bytes to count with: decimal ones, addresses, or ones at an end of something.
+    /// Bytes to count with: addresses, bytes or rows at an end of something, or decimal ones.
     fn operand(&mut self, count: usize) -> Vec<u8> {
-        let kind = self.random.below(4);
+        let kind = self.random.below(5);
+        let filler = self.random.pick(&[0x00, 0xFF, 0x99]);
         let mut bytes = Vec::new();
         while bytes.len() < count {
             match kind {
                 0 => bytes.extend(self.address(DATA).to_le_bytes()),
-                1 => bytes.push(self.random.pick(&BYTES)),
+                1 if bytes.len() + 1 < count => bytes.push(filler),
+                1 | 2 => bytes.push(self.random.pick(&BYTES)),
                 _ => bytes.push(16 * self.random.below(10) as u8 + self.random.below(10) as u8),
             }
         }
@@ -371,20 +379,28 @@ impl Author {
     }
 
     /// An interrupt handler that saves what it uses and gives it back, or nearly.
-    fn handler(&mut self) -> Vec<u8> {
+    fn handler(&mut self, pc: u16) -> Vec<u8> {
         let group = self.random.pick(&[0o10, 0o12, 0o22, 0o40, 0o44, 0o50, 0o70]);
         let other = self.random.pick(&[0o14, 0o30, 0o60, 0o63]);
         let mut code = vec![vec![SAD], vec![ARP_R6], vec![DRP | group], vec![PUSH], vec![DRP | other], vec![PUSH]];
         for _ in 0..self.random.below(6) {
-            let address = DATA + self.random.below(64) as u16;
-            let [low, high] = address.to_le_bytes();
-            code.push(match self.random.below(6) {
+            let [low, high] = match self.random.below(8) {
+                0 => pc.wrapping_add(self.random.below(64) as u16),
+                1 => self.random.pick(&EDGES),
+                _ => DATA + self.random.below(64) as u16,
+            }
+            .to_le_bytes();
+            code.push(match self.random.below(7) {
                 0 => vec![DRP | group],
                 1 => vec![STORE, low, high],
                 2 => vec![STORE - 1, low, high],
                 3 => vec![LOAD - 1, self.random.pick(&BYTES)],
                 4 => vec![0x80 + self.random.below(0x18) as u8],
-                _ => self.random.pick(&[&[ICE, DCE][..], &[BCD], &[STORE, low, high]]).to_vec(),
+                5 => vec![FETCH, low, high],
+                _ => self
+                    .random
+                    .pick(&[&[ICE, DCE][..], &[BCD], &[JSB, SUBROUTINE as u8, (SUBROUTINE >> 8) as u8]])
+                    .to_vec(),
             });
         }
         code.extend([vec![ARP_R6], vec![DRP | other], vec![POP], vec![DRP | group], vec![POP], vec![PAD], vec![RTN]]);
