@@ -1,6 +1,6 @@
 // A reader over the tape, with its place.
 ghost use Rattle.std.specs.Prelude.{◌≡◌, ◌+◌, ◌≤◌, min, length, drop, IfOk, nat_le};
-ghost use Rattle.tape.specs.Records.{entry, entry_of, size_of, load_of, go_of, record_of};
+ghost use Rattle.tape.specs.Records.{entry, entry_of, size_of, load_of, go_of, run_of, ring_of, record_of};
 
 use crate::record::{Mark, Record, TapeFault, Turn};
 
@@ -62,6 +62,28 @@ impl<'a> Reader<'a> {
         }
     }
 
+    // RU at the place: the number of steps.
+    fn run(&self) -> Result<Record<'a>, TapeFault>
+        ensures { entry result ≡ run_of (drop 2 (drop self.now.place self.now.tape.now)) }
+    {
+        match self.rest() {
+            [_, _, low, high, ..] => Ok(Record::Run {
+                steps: u16::from_le_bytes([*low, *high]),
+            }),
+            _ => Err(TapeFault::CutOff),
+        }
+    }
+
+    // RI at the place: the vector.
+    fn ring(&self) -> Result<Record<'a>, TapeFault>
+        ensures { entry result ≡ ring_of (drop 2 (drop self.now.place self.now.tape.now)) }
+    {
+        match self.rest() {
+            [_, _, vector, ..] => Ok(Record::Ring { vector: *vector }),
+            _ => Err(TapeFault::CutOff),
+        }
+    }
+
     // The next record, which the reader does not pass yet. An unknown mark is refused first, then one out of turn,
     // then a record that is cut off.
     #[tactic(auto, using(crate::proofs::Sizes::record_fits))]
@@ -72,6 +94,8 @@ impl<'a> Reader<'a> {
         let mark = match self.rest() {
             [b'L', b'D', ..] => Mark::Load,
             [b'G', b'O', ..] => Mark::Go,
+            [b'R', b'U', ..] => Mark::Run,
+            [b'R', b'I', ..] => Mark::Ring,
             [b'E', b'N', ..] => Mark::End,
             [_, _, ..] => return Err(TapeFault::UnknownMark),
             _ if turn == Turn::Over => return Err(TapeFault::OutOfTurn),
@@ -80,6 +104,8 @@ impl<'a> Reader<'a> {
         match turn.admit(mark)? {
             Mark::Load => self.load(),
             Mark::Go => self.go(),
+            Mark::Run => self.run(),
+            Mark::Ring => self.ring(),
             Mark::End => Ok(Record::End),
         }
     }

@@ -14,6 +14,12 @@ pub enum Record<'a> {
         pc: u16,
         return_pointer: u16,
     },
+    Run {
+        steps: u16,
+    },
+    Ring {
+        vector: u8,
+    },
     End,
 }
 
@@ -21,6 +27,8 @@ pub enum Record<'a> {
 pub(crate) enum Mark {
     Load,
     Go,
+    Run,
+    Ring,
     End,
 }
 
@@ -57,6 +65,8 @@ impl Record<'_> {
         match self {
             Record::Load { bytes, .. } => 5 + bytes.len(),
             Record::Go { .. } => 6,
+            Record::Run { .. } => 4,
+            Record::Ring { .. } => 3,
             Record::End => 2,
         }
     }
@@ -68,7 +78,8 @@ impl Turn {
         ensures { result ≡ admit_of self (Some mark) }
     {
         match (self, mark) {
-            (Turn::Cold, Mark::Load | Mark::Go) | (Turn::Live, Mark::End) => Ok(mark),
+            (Turn::Cold, Mark::Load | Mark::Go) => Ok(mark),
+            (Turn::Live, Mark::Run | Mark::Ring | Mark::End) => Ok(mark),
             _ => Err(TapeFault::OutOfTurn),
         }
     }
