@@ -78,6 +78,6 @@ play_of size tape w =
 -- Nothing is left to play once a record was refused, or when EN was the last.
 abbrev pub over_of : Stage → List ℕ → ℕ → Bool
 over_of cold tape place = false
-over_of (live s) tape place = false
+over_of (live s v) tape place = false
 over_of ended tape place = nat_le (length tape) place
 over_of refused tape place = true

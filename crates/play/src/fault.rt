@@ -1,9 +1,10 @@
 // What comes of a record, and why one is refused.
 ghost use Rattle.std.specs.Prelude.{◌≡◌};
-ghost use Rattle.play.specs.declared.fault.Refusal.TheVariants.{Tape, Load};
+ghost use Rattle.play.specs.declared.fault.Refusal.TheVariants.{Tape, Load, Step};
 ghost use Rattle.play.specs.Numbers.{refusal_number};
 
-use engine::{LoadFault, ReadOut};
+use engine::{LoadFault, ReadOut, Report};
+use noninterference::Refusal as StepRefusal;
 use tape::TapeFault;
 
 #[derive(Clone, Copy, PartialEq, Eq, Debug)]
@@ -12,6 +13,8 @@ pub enum Refusal {
     Sheet,
     Tape(TapeFault),
     Load(LoadFault),
+    // A run was refused whole.
+    Step(StepRefusal),
     // The line buffer has under 512 bytes.
     Buffer,
 }
@@ -25,6 +28,7 @@ impl Refusal {
             Refusal::Sheet => 1,
             Refusal::Tape(fault) => fault.number(),
             Refusal::Load(fault) => fault.number(),
+            Refusal::Step(refusal) => refusal.fault.number(),
             Refusal::Buffer => 14,
         }
     }
@@ -46,6 +50,14 @@ impl From<LoadFault> for Refusal {
     }
 }
 
+impl From<StepRefusal> for Refusal {
+    ghost from_gives = { λ refusal r. r ≡ Step refusal };
+
+    fn from(below: StepRefusal) -> Refusal {
+        Refusal::Step(below)
+    }
+}
+
 // A refused record, and the offset at which it begins.
 #[derive(Clone, Copy, PartialEq, Eq, Debug)]
 pub struct PlayFault {
@@ -58,6 +70,15 @@ pub struct PlayFault {
 pub enum Event {
     Loaded,
     Began,
+    // The program counter is the one after the run or the ring. What a run stopped at, and a refused ring, refuse no record.
+    Ran {
+        report: Report,
+        pc: u16,
+    },
+    Rang {
+        outcome: Result<(), StepRefusal>,
+        pc: u16,
+    },
     Ended(ReadOut),
 }
 

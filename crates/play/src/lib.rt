@@ -9,4 +9,4 @@ mod player;
 pub use fault::{Event, PlayFault, Played, Refusal};
 pub use lines::BUFFER_SIZE;
 pub use phase::Phase;
-pub use player::{Player, SHEET_SIZE};
+pub use player::Player;

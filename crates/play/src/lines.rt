@@ -1,11 +1,12 @@
 // The lines that a record prints.
-ghost use Rattle.std.specs.Prelude.{◌≡◌, ◌+◌, ◌≤◌, length};
+ghost use Rattle.std.specs.Prelude.{◌≡◌, ◌+◌, ◌≤◌, length, IfSome};
 ghost use Rattle.byte_rows.specs.Rows.{over};
-ghost use Rattle.text.specs.Pieces.{joined, room};
-ghost use Rattle.play.specs.Lines.{Lined, end_lines, no_line, lines_of};
+ghost use Rattle.text.specs.Pieces.{joined, room, widest};
+ghost use Rattle.play.specs.Lines.{Lined, end_lines, letter_byte, last_detail, run_line, ring_number, ring_line, no_line, lines_of};
 
 use crate::fault::{Event, PlayFault, Refusal};
-use engine::ReadOut;
+use engine::{ReadOut, Report};
+use noninterference::{Answer, Letter, Refusal as StepRefusal, VisitEnd};
 use text::{Piece, put};
 
 // The least size of a line buffer.
@@ -54,6 +55,79 @@ fn put_end(out: &mut [u8; BUFFER_SIZE], read_out: ReadOut) -> usize
     wrote
 }
 
+fn letter_byte(letter: Letter) -> u8
+    ensures { result ≡ letter_byte letter }
+{
+    match letter {
+        Letter::Done => b'S',
+        Letter::Refused => b'R',
+        Letter::Told => b'T',
+        Letter::Marred => b'M',
+    }
+}
+
+// What the last answer of a run adds to its line.
+fn last_detail(last: Option<Result<Answer, StepRefusal>>) -> Option<Piece>
+    ensures piece { result ≡ last_detail last }
+    ensures room { IfSome result (λ p. widest p ≤ 20) }
+{
+    match last? {
+        Err(refusal) => Some(Piece::Decimal(u64::from(refusal.fault.number()))),
+        Ok(answer) => match (answer.told, answer.ended) {
+            (Some(address), _) => Some(Piece::Hex4(address)),
+            (None, Some(VisitEnd::Marred(mar))) => Some(Piece::Decimal(u64::from(mar.number()))),
+            (None, _) => None,
+        },
+    }
+}
+
+fn put_run(out: &mut [u8; BUFFER_SIZE], report: Report, pc: u16) -> usize
+    ensures { Lined out.old out.new result (joined (run_line report pc)) }
+{
+    let word = Piece::Word(*b"RU ");
+    let done = Piece::Decimal(u64::from(report.done));
+    let space = Piece::Byte(b' ');
+    let letter = Piece::Byte(letter_byte(report.letter));
+    let place = Piece::Hex4(pc);
+    let newline = Piece::Byte(b'\n');
+    match last_detail(report.last) {
+        None => put_pieces(out, 0, &[word, done, space, letter, space, place, newline]),
+        Some(detail) => put_pieces(
+            out,
+            0,
+            &[
+                word, done, space, letter, space, place, space, detail, newline,
+            ],
+        ),
+    }
+}
+
+fn ring_number(outcome: Result<(), StepRefusal>) -> u8
+    ensures { result ≡ ring_number outcome }
+{
+    match outcome {
+        Ok(()) => 0,
+        Err(refusal) => refusal.fault.number(),
+    }
+}
+
+fn put_ring(out: &mut [u8; BUFFER_SIZE], outcome: Result<(), StepRefusal>, pc: u16) -> usize
+    ensures { Lined out.old out.new result (joined (ring_line outcome pc)) }
+{
+    let number = Piece::Decimal(u64::from(ring_number(outcome)));
+    put_pieces(
+        out,
+        0,
+        &[
+            Piece::Word(*b"RI "),
+            number,
+            Piece::Byte(b' '),
+            Piece::Hex4(pc),
+            Piece::Byte(b'\n'),
+        ],
+    )
+}
+
 // The number and the offset of a refused record.
 fn put_no(out: &mut [u8; BUFFER_SIZE], fault: PlayFault) -> usize
     ensures { Lined out.old out.new result (joined (no_line fault)) }
@@ -80,6 +154,8 @@ pub fn put_lines(out: &mut [u8; BUFFER_SIZE], outcome: Result<Event, PlayFault>)
 {
     match outcome {
         Ok(Event::Loaded | Event::Began) => 0,
+        Ok(Event::Ran { report, pc }) => put_run(out, report, pc),
+        Ok(Event::Rang { outcome, pc }) => put_ring(out, outcome, pc),
         Ok(Event::Ended(read_out)) => put_end(out, read_out),
         // A buffer that is too small gets no line.
         Err(fault) if fault.refusal == Refusal::Buffer => 0,

@@ -10,12 +10,9 @@ ghost use Rattle.play.specs.Play.{world_of, tape_of, next_of, entry_in, handled_
 use crate::fault::{Event, PlayFault, Played, Refusal};
 use crate::lines::{BUFFER_SIZE, put_lines};
 use crate::phase::Phase;
-use engine::Cold;
+use engine::{Cold, SHEET_SIZE};
 use memory::Memory;
 use tape::{Reader, Record};
-
-// The size of a sheet.
-pub const SHEET_SIZE: usize = 8192;
 
 #[derive(Drop)]
 pub struct Player<'a> {
@@ -59,15 +56,15 @@ impl<'a> Player<'a> {
     }
 
     // Works the next record and passes it. One that is refused ends the tape, and stays where it is.
-    fn handle(&mut self, memory: &mut Memory, sheet: &[u8]) -> Result<Event, Refusal>
-        ensures outcome { result ≡ (handled_of (tape_of self.old) (world_of self.old sheet.now (meaning_of memory.old))).outcome }
-        ensures after { world_of self.new sheet.now (meaning_of memory.new) ≡ (handled_of (tape_of self.old) (world_of self.old sheet.now (meaning_of memory.old))).after }
+    fn handle(&mut self, memory: &mut Memory, sheet: &mut [u8]) -> Result<Event, Refusal>
+        ensures outcome { result ≡ (handled_of (tape_of self.old) (world_of self.old sheet.old (meaning_of memory.old))).outcome }
+        ensures after { world_of self.new sheet.new (meaning_of memory.new) ≡ (handled_of (tape_of self.old) (world_of self.old sheet.old (meaning_of memory.old))).after }
         ensures tape { tape_of self.new ≡ tape_of self.old }
     {
         let next = self.next(sheet);
         let phase = std::mem::replace(&mut self.phase, Phase::Refused);
         let item = next?;
-        let (phase, event) = phase.work(item, memory)?;
+        let (phase, event) = phase.work(item, memory, sheet)?;
         self.phase = phase;
         self.reader.pass(item);
         Ok(event)

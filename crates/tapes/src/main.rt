@@ -1,8 +1,9 @@
 // Plays a table of tapes, one for each way a record is taken or refused, and prints what each prints.
 #![tactic(auto)]
 
+use engine::SHEET_SIZE;
 use memory::Memory;
-use play::{BUFFER_SIZE, Played, Player, SHEET_SIZE};
+use play::{BUFFER_SIZE, Played, Player};
 use std::io::Write;
 use transcript::transcribe;
 

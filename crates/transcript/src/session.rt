@@ -4,8 +4,9 @@ ghost use Rattle.play.specs.Lines.{lines_of};
 ghost use Rattle.transcript.specs.Printed.{start};
 ghost use Rattle.transcript.specs.Sessions.{tape_in, world_in, next_in};
 
+use engine::SHEET_SIZE;
 use memory::Memory;
-use play::{BUFFER_SIZE, Player, SHEET_SIZE};
+use play::{BUFFER_SIZE, Player};
 use std::alloc::{AllocError, Global};
 
 #[derive(Drop)]
