@@ -1,0 +1,162 @@
+// Pointers, modes, E, saves, subroutines and jumps.
+use crate::setup::{carry, processor, ram};
+use registers::Status;
+use std::process::Abort;
+use std::test::Fail;
+
+// ARP, DRP, DCM and E after a code; R0 holds C5.
+#[test]
+fn of_one_byte(rt: HostRuntime) -> Result<(), Fail> {
+    let table = [
+        (0x22, 0o42, 0o30, true, 15),
+        (0x01, 0o05, 0o30, true, 15),
+        (0x62, 0o20, 0o42, true, 15),
+        (0x41, 0o20, 0o05, true, 15),
+        (0x98, 0o20, 0o30, false, 15),
+        (0x99, 0o20, 0o30, true, 15),
+        (0x9B, 0o20, 0o30, true, 14),
+        (0x9C, 0o20, 0o30, true, 0),
+        (0x9D, 0o20, 0o30, true, 0),
+    ];
+    for (code, arp, drp, dcm, e) in table {
+        let mut cpu = processor(0o20, 0o30);
+        cpu.status.dcm = true;
+        cpu.e = 15;
+        let mut want = cpu;
+        let done = carry(&rt, &ram(&rt, [code, 0, 0])?, &mut cpu);
+        want.set_pair(4, 0x101);
+        want.arp = arp % 64;
+        want.drp = drp % 64;
+        want.status.dcm = dcm;
+        want.e = e % 16;
+        assert_eq!(rt; cpu, want, "code {code}");
+        assert_eq!(rt; done.length, 1);
+    }
+    Ok(())
+}
+
+// SAD stores the pointers and the status, not E, at the return pointer, and raises it by 3. PAD takes them back.
+#[test]
+fn saves(rt: HostRuntime) -> Result<(), Fail> {
+    let mut cpu = processor(0o12, 0o34);
+    cpu.e = 9;
+    cpu.status = Status {
+        cy: true,
+        z: true,
+        msb: true,
+        rdz: true,
+        ..Status::clear()
+    };
+    let mut want = cpu;
+    let mut ram = ram(&rt, [0x9A, 0x9F, 0])?;
+    let done = carry(&rt, &ram, &mut cpu);
+    want.set_pair(4, 0x101);
+    want.set_pair(6, 0x183);
+    assert_eq!(rt; cpu, want);
+    assert_eq!(rt; done.at, 0x180);
+    assert_eq!(rt; done.bytes.as_slice(), &[0x4A, 0x9C, 0x0A][..]);
+    assert_eq!(rt; ram.load(0x180, &[0x4A, 0x9C, 0xFA]), Ok(()));
+    cpu.arp = 0;
+    cpu.drp = 0;
+    cpu.status = Status::clear();
+    let _ = carry(&rt, &ram, &mut cpu);
+    want.set_pair(4, 0x102);
+    want.set_pair(6, 0x180);
+    assert_eq!(rt; cpu, want);
+    Ok(())
+}
+
+// JSB literal and indexed store the address after them; RTN goes to the one below the return pointer.
+#[test]
+fn subroutines(rt: HostRuntime) -> Result<(), Fail> {
+    let table = [
+        ([0xCE, 0x34, 0x12], 0x1234, 0x0807, 0x182, 3, &[3, 1][..]),
+        ([0xC6, 0x10, 0x00], 0x0050, 0x0050, 0x182, 3, &[3, 1][..]),
+        ([0x9E, 0x00, 0x00], 0x5678, 0x0807, 0x17E, 1, &[][..]),
+    ];
+    for (code, pc, r2, return_pointer, length, stored) in table {
+        let mut ram = ram(&rt, code)?;
+        assert_eq!(rt; ram.load(0x17E, &[0x78, 0x56]), Ok(()));
+        let mut cpu = processor(0o20, 0o30);
+        let mut want = cpu;
+        let done = carry(&rt, &ram, &mut cpu);
+        want.set_pair(4, pc);
+        want.set_pair(2, r2);
+        want.set_pair(6, return_pointer);
+        assert_eq!(rt; cpu, want, "code {code:?}");
+        assert_eq!(rt; done.bytes.as_slice(), stored, "code {code:?}");
+        assert_eq!(rt; done.length, length, "code {code:?}");
+        assert_eq!(rt; done.returns, length == 1, "code {code:?}");
+    }
+    Ok(())
+}
+
+fn after_jump(
+    rt: &(impl Abort + AllocGlobal),
+    code: u8,
+    offset: u8,
+    status: Status,
+    e: u8,
+) -> Result<u16, Fail> {
+    let mut cpu = processor(0o20, 0o30);
+    cpu.status = status;
+    cpu.e = e % 16;
+    let done = carry(rt, &ram(rt, [code, offset, 0])?, &mut cpu);
+    assert_eq!(rt; done.length, 2);
+    Ok(cpu.pc())
+}
+
+// F0 FE at 256 goes to 256, and F0 7F to 385.
+#[test]
+fn jumps_far(rt: HostRuntime) -> Result<(), Fail> {
+    let clear = Status::clear();
+    for (offset, pc) in [(0xFE, 256), (0x7F, 385), (0x80, 130), (0, 258)] {
+        assert_eq!(rt; after_jump(&rt, 0xF0, offset, clear, 0)?, pc);
+    }
+    Ok(())
+}
+
+// F0 to FF: whether each jump is taken with all bits clear, with CY, OVF and Z set, and with LSB, MSB, LDZ, RDZ set and E 5.
+#[test]
+fn conditions(rt: HostRuntime) -> Result<(), Fail> {
+    let clear = Status::clear();
+    let left = Status {
+        cy: true,
+        ovf: true,
+        z: true,
+        ..clear
+    };
+    let right = Status {
+        lsb: true,
+        msb: true,
+        ldz: true,
+        rdz: true,
+        ..clear
+    };
+    let table = [
+        (true, true, true),
+        (true, false, true),
+        (false, false, true),
+        (true, true, false),
+        (false, true, true),
+        (true, false, false),
+        (true, false, true),
+        (false, true, false),
+        (false, false, true),
+        (true, true, false),
+        (true, false, true),
+        (false, true, false),
+        (false, false, true),
+        (true, true, false),
+        (false, false, true),
+        (true, true, false),
+    ];
+    for (i, (first, second, third)) in table.into_iter().enumerate() {
+        let code = 0xF0 + (i % 16) as u8;
+        for (status, e, taken) in [(clear, 0, first), (left, 0, second), (right, 5, third)] {
+            let pc = if taken { 0x107 } else { 0x102 };
+            assert_eq!(rt; after_jump(&rt, code, 5, status, e)?, pc, "code {code}");
+        }
+    }
+    Ok(())
+}
