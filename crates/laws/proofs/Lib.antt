@@ -2,3 +2,5 @@ pub mod Ends
 pub mod Registers
 pub mod Worked
 pub mod Left
+pub mod Pairs
+pub mod Undoing

@@ -2,5 +2,7 @@
 #![tactic(auto)]
 
 mod part;
+mod returned;
 
 pub use part::{Part, leaves};
+pub use returned::given_back;
