@@ -17,7 +17,8 @@ use std::thread;
 use peer::tape::transcribe;
 use tapes::Made;
 
-const TAPES: u64 = 4_000;
+/// How many tapes are played where none is said.
+const TAPES: u64 = 10_000;
 
 fn main() -> ExitCode {
     let arguments: Vec<String> = env::args().skip(1).collect();
