@@ -1,45 +1,14 @@
 // Plays a table of tapes, one for each way a record is taken or refused, and prints what each prints.
 #![tactic(auto)]
 
+mod cases;
+
+use cases::{Case, LOAD_OF_NO_BYTES, RECORDS, RUNS_AND_RINGS, UNKNOWN_MARK};
 use engine::SHEET_SIZE;
 use memory::Memory;
 use play::{BUFFER_SIZE, Played, Player};
 use std::io::Write;
 use transcript::transcribe;
-
-// What a tape shows, and the tape.
-type Case = (&'static str, &'static [u8]);
-
-const UNKNOWN_MARK: Case = ("an unknown mark", b"XY");
-
-const LOAD_OF_NO_BYTES: Case = ("a load of no bytes", b"LD\x00\x01\x00");
-
-const CASES: [Case; 18] = [
-    ("an empty tape", b""),
-    ("half a mark", b"L"),
-    UNKNOWN_MARK,
-    ("an unknown mark after GO", b"GO\x00\x01\x00\x04XY"),
-    ("EN before GO", b"EN"),
-    ("EN after a load", b"LD\x00\x01\x01\xFFEN"),
-    ("a load after GO", b"GO\x00\x01\x00\x04LD\x00\x01\x01\xFF"),
-    (
-        "a load after GO, and cut off: out of turn comes first",
-        b"GO\x00\x01\x00\x04LD",
-    ),
-    ("a second GO", b"GO\x00\x01\x00\x04GO\x00\x01\x00\x04"),
-    ("a load without its count", b"LD\x00\x01"),
-    ("a load short of one byte", b"LD\x00\x01\x02\xFF"),
-    ("GO without its return pointer", b"GO\x00\x01\x00"),
-    ("no EN", b"GO\x00\x01\x00\x04"),
-    LOAD_OF_NO_BYTES,
-    (
-        "a load of the last byte of RAM, then one past it",
-        b"LD\xFF\x7F\x01\xAALD\xFF\x7F\x02\xAA\xBB",
-    ),
-    ("a byte after EN", b"GO\x34\x12\x78\x56EN\x00"),
-    ("a record after EN", b"GO\x34\x12\x78\x56ENEN"),
-    ("an unknown mark after EN", b"GO\x34\x12\x78\x56ENXY"),
-];
 
 // What the sizes of a sheet and of a line buffer show, and the sizes.
 #[derive(Clone, Copy, PartialEq, Eq, Debug)]
@@ -116,7 +85,10 @@ fn show_again(rt: &HostRuntime, (name, tape): Case) -> anyhow::Result<()> {
 }
 
 fn main(rt: HostRuntime) -> anyhow::Result<()> {
-    for case in CASES {
+    for case in RECORDS {
+        show(&rt, case)?;
+    }
+    for case in RUNS_AND_RINGS {
         show(&rt, case)?;
     }
     for lent in LENT {
