@@ -4,3 +4,4 @@ pub mod Worked
 pub mod Left
 pub mod Pairs
 pub mod Undoing
+pub mod ByHand
