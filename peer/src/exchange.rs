@@ -6,7 +6,7 @@ use crate::processor::{self, Cpu, Port};
 /// The size of a sheet: one bit for each address.
 pub const SHEET: usize = 8192;
 
-/// The highest status bits' mar and those before it: 0 to 63 are registers.
+/// The numbers of the mars that are no registers; those have 0 to 63.
 const MAR_ARP: u8 = 64;
 const MAR_DRP: u8 = 65;
 const MAR_STATUS: u8 = 66;
