@@ -2,8 +2,8 @@
 #![tactic(auto)]
 
 #[cfg(test)]
-mod refusals;
+mod marking;
 #[cfg(test)]
-mod stains;
+mod refusals;
 #[cfg(test)]
 mod stores;
