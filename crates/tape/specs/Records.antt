@@ -55,11 +55,13 @@ mark_of (a ∷ b ∷ rest) =
     (cond (a == 69 && b == 78) (Ok (Some mark.End))
     (Err UnknownMark)))))
 
--- Loads come first, then GO, then RU and RI, then EN, then nothing; where a record should come and no whole mark is left, it is cut off.
+-- Loads come first, then GO, then RU and RI, then EN, then nothing; where a record should come and no whole mark is left, it is cut
+-- off. Who reads a tape and does not play it takes any record.
 abbrev pub admit_of : Turn → Option Mark → Result Mark TapeFault
 admit_of turn.Over m = Err OutOfTurn
 admit_of turn.Cold None = Err CutOff
 admit_of turn.Live None = Err CutOff
+admit_of turn.Any None = Err CutOff
 admit_of turn.Cold (Some mark.Load) = Ok mark.Load
 admit_of turn.Cold (Some mark.Go) = Ok mark.Go
 admit_of turn.Cold (Some mark.Run) = Err OutOfTurn
@@ -70,6 +72,7 @@ admit_of turn.Live (Some mark.Go) = Err OutOfTurn
 admit_of turn.Live (Some mark.Run) = Ok mark.Run
 admit_of turn.Live (Some mark.Ring) = Ok mark.Ring
 admit_of turn.Live (Some mark.End) = Ok mark.End
+admit_of turn.Any (Some m) = Ok m
 
 -- LD: an address pair, a count, and that many bytes.
 abbrev pub load_of : ℕ → List ℕ → Result Entry TapeFault

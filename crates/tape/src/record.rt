@@ -40,12 +40,14 @@ pub enum TapeFault {
     OutOfTurn = 12,
 }
 
-// What may come next: loads and GO, or what an exchange in service does, or nothing.
+// What may come next: loads and GO, or what an exchange in service does, or nothing. Any record may come where a tape is read
+// and not played.
 #[derive(Clone, Copy, PartialEq, Eq, Debug)]
 pub enum Turn {
     Cold,
     Live,
     Over,
+    Any,
 }
 
 impl TapeFault {
@@ -80,6 +82,7 @@ impl Turn {
         match (self, mark) {
             (Turn::Cold, Mark::Load | Mark::Go) => Ok(mark),
             (Turn::Live, Mark::Run | Mark::Ring | Mark::End) => Ok(mark),
+            (Turn::Any, _) => Ok(mark),
             _ => Err(TapeFault::OutOfTurn),
         }
     }

@@ -110,7 +110,7 @@ impl Line<'_> {
 }
 
 // A space and two hexadecimal digits.
-fn one_apart(n: u8) -> [u8; 3]
+pub fn one_apart(n: u8) -> [u8; 3]
     ensures { result ≡ one_apart n }
 {
     let [high, low] = hex2(n);

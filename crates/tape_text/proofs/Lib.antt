@@ -1,0 +1,3 @@
+pub mod Punching
+pub mod Again
+pub mod Enough
