@@ -1,7 +1,7 @@
 // Why a call is refused.
 ghost use Rattle.std.specs.Prelude.{◌≡◌};
 ghost use Rattle.installation.specs.declared.fault.CallFault.TheVariants.{Load, Exchange};
-ghost use Rattle.installation.specs.Numbers.{call_described, call_place};
+ghost use Rattle.installation.specs.Numbers.{call_described, call_place, call_told};
 
 use engine::LoadFault;
 use noninterference::{Description, Detail, Refusal};
@@ -41,6 +41,16 @@ impl CallFault {
             },
             CallFault::Load(fault) => fault.describe(),
             CallFault::Exchange(refusal) => refusal.fault.describe(),
+        }
+    }
+
+    // The first stained address that a refused step read.
+    pub fn told(self) -> Option<u16>
+        ensures { result ≡ call_told self }
+    {
+        match self {
+            CallFault::OutOfTurn | CallFault::Load(_) => None,
+            CallFault::Exchange(refusal) => refusal.told,
         }
     }
 

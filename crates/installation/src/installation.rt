@@ -111,8 +111,8 @@ impl Installation {
     {
         match std::mem::replace(&mut self.phase, Phase::Over) {
             Phase::InService(live) => Ok(live.end()),
-            phase => {
-                self.phase = phase;
+            other => {
+                self.phase = other;
                 Err(CallFault::OutOfTurn)
             }
         }
