@@ -6,6 +6,7 @@ ghost use Rattle.laws.specs.ByHand.{loaded, WorkedSettings};
 use alu::worked_examples;
 use registers::{Cpu, Form, span};
 
+#[derive(Clone, Copy)]
 pub struct Settings {
     // The spans of a multi form at DRP R42, R30, R37 and R77.
     pub spans: [usize; 4],
@@ -16,7 +17,6 @@ pub struct Settings {
 }
 
 // What the settings come to by hand; that the instructions do the same is part of the contract.
-
 pub fn worked_settings(cpu: &Cpu) -> Settings
     ensures spans { result.spans ≡ 6 ∷ 2 ∷ 1 ∷ 1 ∷ [] }
     ensures jumps { result.jumps ≡ 256 ∷ 385 ∷ [] }

@@ -1,0 +1,7 @@
+// What the instructions leave and give back, by example.
+#![tactic(auto)]
+
+#[cfg(test)]
+mod backs;
+#[cfg(test)]
+mod lefts;
