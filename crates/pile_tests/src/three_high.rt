@@ -44,7 +44,7 @@ impl Bottom for LineBoard {
     }
 }
 
-// A guard of 504 and 505; a split at 516, with another bottom from there on; a shadow of page 1, which ends at 511.
+// A guard of 504 and 505; a split at 516, with another bottom from there on; a shadow of 256 to 511.
 #[derive(Clone, Copy, PartialEq, Eq, Debug)]
 enum Layer {
     Guard,
