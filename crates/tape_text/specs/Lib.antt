@@ -1,2 +1,3 @@
 pub mod Reading
 pub mod Listing
+pub mod Messages

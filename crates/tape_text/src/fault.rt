@@ -1,5 +1,6 @@
 // Why a text is not a tape's, and where.
-ghost use Rattle.std.specs.Prelude.{◌≡◌};
+ghost use Rattle.std.specs.Prelude.{◌≡◌, Some};
+ghost use Rattle.tape_text.specs.Messages.{expected_text, fault_text, error_text};
 ghost use Rattle.tape_text.specs.declared.fault.PunchError.TheVariants.{OutOfMemory};
 
 use std::alloc::AllocError;
@@ -36,6 +37,8 @@ impl From<AllocError> for PunchError {
 }
 
 impl fmt::Display for Expected {
+    ghost output = { λ e. Some (expected_text e) };
+
     fn fmt<W: fmt::Write>(&self, f: &mut fmt::Formatter<W>) -> fmt::Result {
         match self {
             Self::Mark => write!(f, "a mark of two capital letters, or two dots"),
@@ -45,6 +48,8 @@ impl fmt::Display for Expected {
 }
 
 impl fmt::Display for TextFault {
+    ghost output = { λ f. Some (fault_text f) };
+
     fn fmt<W: fmt::Write>(&self, f: &mut fmt::Formatter<W>) -> fmt::Result {
         let TextFault {
             line,
@@ -56,6 +61,8 @@ impl fmt::Display for TextFault {
 }
 
 impl fmt::Display for PunchError {
+    ghost output = { λ e. Some (error_text e) };
+
     fn fmt<W: fmt::Write>(&self, f: &mut fmt::Formatter<W>) -> fmt::Result {
         match self {
             Self::Text(fault) => write!(f, "{fault}"),
