@@ -1,5 +1,7 @@
 // What is done with the memory.
-ghost use Rattle.std.specs.Prelude.{◌≡◌, IfOk};
+ghost use Rattle.std.specs.Prelude.{◌≡◌, length, map, IfOk};
+ghost use Rattle.byte_rows.specs.Rows.{zeros};
+ghost use Rattle.bus.specs.Kinds.{trunk_byte};
 ghost use Rattle.memory.specs.Blank.{blank};
 ghost use Rattle.memory.specs.Pile.{meaning_of, rules_of};
 
@@ -14,13 +16,13 @@ impl Memory {
     pub fn new(heap: Global) -> Result<Memory, AllocError>
         ensures made { IfOk result (λ m. meaning_of m ≡ blank) }
     {
-        let bytes = vec![in heap; 0u8; 32768]?;
+        let bytes = zero_bytes(heap)?;
         let low = Guard {
             first: 0,
             last: 255,
             below: Ram { base: 0, bytes },
         };
-        let high = LineBoard::new(32768, [Trunk::from(0); 16]);
+        let high = LineBoard::new(32768, zero_trunks());
         let pile = Split {
             at: 32768,
             low,
@@ -28,6 +30,21 @@ impl Memory {
         };
         Ok(Memory { pile })
     }
+}
+
+// For the RAM.
+fn zero_bytes(heap: Global) -> Result<Vec<u8>, AllocError>
+    ensures bytes { IfOk result (λ v. v.items ≡ zeros 32768) }
+    ensures size { IfOk result (λ v. length v.items ≡ 32768) }
+{
+    Ok(vec![in heap; 0u8; 32768]?)
+}
+
+// For the line board.
+fn zero_trunks() -> [Trunk; 16]
+    ensures { map trunk_byte result ≡ zeros 16 }
+{
+    [Trunk::from(0); 16]
 }
 
 impl Bus for Memory {
