@@ -27,7 +27,7 @@ impl<'a> Reader<'a> {
     }
 
     // What is left of the tape.
-    fn rest(&self) -> &'a [u8]
+    pub fn rest(&self) -> &'a [u8]
         ensures { result.now ≡ drop self.now.place self.now.tape.now }
     {
         &self.tape[self.place..]

@@ -1,5 +1,5 @@
 -- More records are not looked for than there can be, and what is still to be listed.
-use Rattle.std.proofs.Common.{◌≡◌, ℕ, zero, suc, ◌+◌, ◌-◌, ◌<◌, ◌≤◌, List, [], ◌∷◌, ◌++◌, length, min, take, drop, Ok, Err, refl, sym, ap, ◌∙◌, append_assoc, length-append, length-drop, arith}
+use Rattle.std.proofs.Common.{◌≡◌, ℕ, zero, suc, ◌+◌, ◌-◌, ◌<◌, ◌≤◌, List, [], ◌∷◌, ◌++◌, length, min, take, drop, Ok, Err, refl, sym, ap, ◌∙◌, length-append, length-drop, arith}
 use Rattle.std.proofs.lemmas.List.{nil_from_length}
 use Rattle.std.specs.List.{flat_map}
 use Rattle.std.specs.Prelude.{codes}
@@ -9,7 +9,7 @@ use Rattle.tape.specs.declared.record.TapeFault.{TapeFault}
 use Rattle.tape.specs.declared.record.Turn.TheVariants as turn
 use Rattle.tape.specs.Records.{Entry, size_of, record_of}
 use Rattle.tape.proofs.Sizes.{record_fits, two_or_more}
-use Rattle.tape_text.specs.Listing.{line_of, rows_of, record_line, listed_by, listed, text_of, EveryRecordIsListed}
+use Rattle.tape_text.specs.Listing.{line_of, rows_of, record_line, listed_by, listed, left, text_of, EveryRecordIsListed}
 
 -- a record that stands there is at most as long as what is left
 room : (place : ℕ) (tape : List ℕ) (e : Entry) → record_of turn.Any place (drop place tape) ≡ Ok e → (2 ≤ size_of e) × (place + size_of e ≤ length tape)
@@ -40,16 +40,11 @@ enough (suc m) (suc n) place tape p q =
 pub every_record_is_listed : EveryRecordIsListed
 every_record_is_listed tape more = enough (length tape + more) (length tape) 0 tape (omega arith) (omega arith)
 
--- what is still to be listed from the place on
-pub left : ℕ → List ℕ → List ℕ
-left place tape = listed (length tape - place) place tape
-
 pub left_all : (tape : List ℕ) → left 0 tape ≡ text_of tape
-unfolding left
 left_all tape = ap (λ n. listed n 0 tape) (omega arith)
 
 record_next : (n place : ℕ) (tape : List ℕ) (e : Entry) → length tape - place ≤ n → record_of turn.Any place (drop place tape) ≡ Ok e → listed n place tape ≡ record_line (take (size_of e) (drop place tape)) ++ left (place + size_of e) tape
-unfolding listed left
+unfolding listed
 record_next zero place tape e p q = let fits = room place tape e q in absurd (omega arith)
 record_next (suc n) place tape e p q =
     let fits = room place tape e q in
@@ -60,17 +55,12 @@ unfolding listed
 rest_next zero place tape f q = refl
 rest_next (suc n) place tape f q = ap (λ r. listed_by r (λ size. listed n (place + size) tape) (drop place tape)) q
 
--- one record more
-pub left_record : (place place' : ℕ) (tape text text' whole : List ℕ) (e : Entry) → record_of turn.Any place (drop place tape) ≡ Ok e → place' ≡ min (place + size_of e) (length tape) → text' ≡ text ++ record_line (take (size_of e) (drop place tape)) → text ++ left place tape ≡ whole → text' ++ left place' tape ≡ whole
-left_record place place' tape text text' whole e q p t h =
-    let fits = room place tape e q in
-    let at : place' ≡ place + size_of e = omega arith in
-    let next : left place tape ≡ record_line (take (size_of e) (drop place tape)) ++ left (place + size_of e) tape = unfold left in record_next (length tape - place) place tape e (omega arith) q in
-    ap (λ n. text' ++ left n tape) at ∙ ap (λ x. x ++ left (place + size_of e) tape) t ∙ append_assoc text _ _ ∙ sym (ap (λ x. text ++ x) next) ∙ h
+-- one record more, or what is left
+pub left_record : (place : ℕ) (tape : List ℕ) (e : Entry) → record_of turn.Any place (drop place tape) ≡ Ok e → left place tape ≡ record_line (take (size_of e) (drop place tape)) ++ left (place + size_of e) tape
+left_record place tape e q = let fits = room place tape e q in record_next (length tape - place) place tape e (omega arith) q
 
-pub left_rest : (place : ℕ) (tape text whole : List ℕ) (f : TapeFault) → record_of turn.Any place (drop place tape) ≡ Err f → text ++ left place tape ≡ whole → text ++ rows_of (drop place tape) ≡ whole
-unfolding left
-left_rest place tape text whole f q h = sym (ap (λ x. text ++ x) (rest_next (length tape - place) place tape f q)) ∙ h
+pub left_rest : (place : ℕ) (tape : List ℕ) (f : TapeFault) → record_of turn.Any place (drop place tape) ≡ Err f → left place tape ≡ rows_of (drop place tape)
+left_rest place tape f q = rest_next (length tape - place) place tape f q
 
 -- a row that is shorter than n is the last
 cut : (n : ℕ) (row rest : List ℕ) → length row ≡ min n (length (row ++ rest)) → (take n (row ++ rest) ≡ row) × (drop n (row ++ rest) ≡ rest)
@@ -79,13 +69,8 @@ cut zero (x ∷ row) rest h = absurd (omega arith)
 cut (suc n) [] rest h = let nil : rest ≡ [] = nil_from_length rest (omega arith) in (ap (take (suc n)) nil, ap (drop (suc n)) nil ∙ sym nil)
 cut (suc n) (x ∷ row) rest h = let r = cut n row rest (omega arith) in (ap (λ t. x ∷ t) r.0, r.1)
 
-rows_first : (row rest : List ℕ) → 0 < length (row ++ rest) → length row ≡ min 16 (length (row ++ rest)) → rows_of (row ++ rest) ≡ line_of (codes "..") row ++ rows_of rest
+pub rows_first : (row rest : List ℕ) → 0 < length (row ++ rest) → length row ≡ min 16 (length (row ++ rest)) → rows_of (row ++ rest) ≡ line_of (codes "..") row ++ rows_of rest
 rows_first row rest h l =
     let count : chunk_count (length (row ++ rest)) 16 ≡ suc (chunk_count (length rest) 16) = omega (arith, length-append row rest) in
     let parts = cut 16 row rest l in
     ap (λ n. flat_map (line_of (codes "..")) (first_chunks 16 n (row ++ rest))) count ∙ (λ i. line_of (codes "..") (parts.0 i) ++ flat_map (line_of (codes "..")) (first_chunks 16 (chunk_count (length rest) 16) (parts.1 i)))
-
-pub row_more : (row rest rest' text text' whole : List ℕ) → rest ≡ row ++ rest' → length row ≡ min 16 (length rest) → 0 < length rest → text' ≡ text ++ line_of (codes "..") row → text ++ rows_of rest ≡ whole → text' ++ rows_of rest' ≡ whole
-row_more row rest rest' text text' whole e l p t h =
-    let first = rows_first row rest' (omega (arith, ap length e)) (l ∙ ap (λ r. min 16 (length r)) e) in
-    ap (λ x. x ++ rows_of rest') t ∙ append_assoc text _ _ ∙ ap (λ x. text ++ x) (sym first ∙ ap rows_of (sym e)) ∙ h

@@ -19,20 +19,15 @@ byte_more n end b [] old l e s t = absurd (omega arith)
 byte_more n end b (c ∷ []) old l e s t = absurd (omega arith)
 byte_more n end b (c ∷ d ∷ rest) old l e s t = rw (e, s, ← t) (before_before old (b ∷ []) (bytes_from n end rest))
 
-marked_line : (n end : ℕ) (rest : List ℕ) → 2 ≤ length rest → is_capital (get_or rest 0 0) ≡ true → is_capital (get_or rest 1 0) ≡ true → line_from n end rest ≡ before (get_or rest 0 0 ∷ get_or rest 1 0 ∷ []) (bytes_from n end (drop 2 rest))
+pub marked_line : (n end : ℕ) (rest : List ℕ) → 2 ≤ length rest → is_capital (get_or rest 0 0) ≡ true → is_capital (get_or rest 1 0) ≡ true → line_from n end rest ≡ before (get_or rest 0 0 ∷ get_or rest 1 0 ∷ []) (bytes_from n end (drop 2 rest))
 marked_line n end [] l p q = absurd (omega arith)
 marked_line n end (c ∷ []) l p q = absurd (omega arith)
 marked_line n end (c ∷ d ∷ rest) l p q = grind (arith, nat_tests)
 
-reads_before : (xs old new : List ℕ) (r : Result (List ℕ) TextFault) (o : Result (Unit {0}) PunchError) → Reads r (old ++ xs) o new → Reads (before xs r) old o new
+pub reads_before : (xs old new : List ℕ) (r : Result (List ℕ) TextFault) (o : Result (Unit {0}) PunchError) → Reads r (old ++ xs) o new → Reads (before xs r) old o new
 reads_before xs old new r (Ok u) h = sym (before_before old xs r) ∙ h
 reads_before xs old new r (Err (Text f)) h = ap (before xs) h
 reads_before xs old new r (Err OutOfMemory) h = tt
-
-pub mark_more : (n end : ℕ) (rest after old mid new : List ℕ) (whole : Result (List ℕ) TextFault) (o : Result (Unit {0}) PunchError) → 2 ≤ length rest → is_capital (get_or rest 0 0) ≡ true → is_capital (get_or rest 1 0) ≡ true → line_from n end rest ≡ whole → after ≡ drop 2 rest → mid ≡ old ++ (get_or rest 0 0 ∷ get_or rest 1 0 ∷ []) → Reads (bytes_from n end after) mid o new → Reads whole old o new
-mark_more n end rest after old mid new whole o l p q w a m h =
-    let e : before (get_or rest 0 0 ∷ get_or rest 1 0 ∷ []) (bytes_from n end (drop 2 rest)) ≡ whole = sym (marked_line n end rest l p q) ∙ w in
-    subst (λ r. Reads r old o new) e (reads_before (get_or rest 0 0 ∷ get_or rest 1 0 ∷ []) old new (bytes_from n end (drop 2 rest)) o (rw (a, m) at h))
 
 pub numbered : (parts : List (List ℕ)) (k n : ℕ) (line : List ℕ) → (k < length (enumerate_from 0 parts)) × ((n, line) ≡ get_or (enumerate_from 0 parts) k (n, line)) → (k < length parts) × (n ≡ k) × (line ≡ get_or parts k line)
 numbered parts k n line h =
@@ -53,12 +48,25 @@ then_more old new (Err f) more h = absurd (cc)
 pub line_more : (parts : List (List ℕ)) (k n : ℕ) (line old new : List ℕ) (whole : Result (List ℕ) TextFault) → (k < length parts) × (n ≡ k) × (line ≡ get_or parts k line) → before old (line_at (n + 1) line) ≡ Ok new → before old (lines_from (k + 1) (drop k parts)) ≡ whole → before new (lines_from (k + 1 + 1) (drop (k + 1) parts)) ≡ whole
 line_more parts k n line old new whole h r w = sym (then_more old new (line_at (n + 1) line) _ r) ∙ sym (ap (before old) (next_line parts k n line h)) ∙ w
 
-pub line_refused : (parts : List (List ℕ)) (k n : ℕ) (line old new : List ℕ) (whole : Result (List ℕ) TextFault) (e : PunchError) (o : Result (Vec ℕ) PunchError) → (k < length parts) × (n ≡ k) × (line ≡ get_or parts k line) → Reads (line_at (n + 1) line) old (Err e) new → before old (lines_from (k + 1) (drop k parts)) ≡ whole → o ≡ Err e → Punched whole o
-line_refused parts k n line old new whole (Text f) o h r w q =
+refused_in : (xs : List ℕ) (r : Result (List ℕ) TextFault) (f : TextFault) → before xs r ≡ Err f → r ≡ Err f
+refused_in xs (Ok ys) f h = absurd (cc)
+refused_in xs (Err g) f h = h
+
+pub line_refused : (parts : List (List ℕ)) (k n : ℕ) (line old new first last : List ℕ) (whole : Result (List ℕ) TextFault) (e : PunchError) (o : Result (Unit {0}) PunchError) → (k < length parts) × (n ≡ k) × (line ≡ get_or parts k line) → Reads (line_at (n + 1) line) old (Err e) new → before old (lines_from (k + 1) (drop k parts)) ≡ before first whole → o ≡ Err e → Reads whole first o last
+line_refused parts k n line old new first last whole (Text f) o h r w q =
     let e : then (line_at (n + 1) line) (lines_from (k + 1 + 1) (drop (k + 1) parts)) ≡ Err f = ap (λ t. then t (lines_from (k + 1 + 1) (drop (k + 1) parts))) r in
-    subst (Punched whole) (sym q) (sym w ∙ ap (before old) (next_line parts k n line h ∙ e))
-line_refused parts k n line old new whole OutOfMemory o h r w q = subst (Punched whole) (sym q) tt
+    subst (λ t. Reads whole first t last) (sym q) (refused_in first whole f (sym w ∙ ap (before old) (next_line parts k n line h ∙ e)))
+line_refused parts k n line old new first last whole OutOfMemory o h r w q = subst (λ t. Reads whole first t last) (sym q) tt
 
 pub all_read : (parts : List (List ℕ)) (k : ℕ) (tape : List ℕ) (whole : Result (List ℕ) TextFault) → k ≡ length (enumerate_from 0 parts) → before tape (lines_from (k + 1) (drop k parts)) ≡ whole → whole ≡ Ok tape
 all_read parts k tape whole h w =
     sym w ∙ ap (before tape) (at_drop_all (lines_from (k + 1)) parts k (omega (arith, h, length-enumerate_from 0 parts))) ∙ ap Ok (append-nil tape)
+
+-- a whole tape is punched from nothing
+pub punched : (r : Result (List ℕ) TextFault) (u : Unit {0}) (tape : Vec ℕ) → Reads r [] (Ok u) tape.items → Punched r (Ok tape)
+punched (Ok xs) u tape h = h
+punched (Err f) u tape h = h
+
+pub not_punched : (r : Result (List ℕ) TextFault) (e : PunchError) (new : List ℕ) → Reads r [] (Err e) new → Punched r (Err e)
+not_punched r (Text f) new h = h
+not_punched r OutOfMemory new h = tt

@@ -1,5 +1,5 @@
 -- The text of a tape.
-use Rattle.std.specs.Prelude.{◌≡◌, ℕ, zero, suc, ◌+◌, List, [], ◌∷◌, ◌++◌, length, take, drop, codes, Ok, Err, Result}
+use Rattle.std.specs.Prelude.{◌≡◌, ℕ, zero, suc, ◌+◌, ◌-◌, List, [], ◌∷◌, ◌++◌, length, take, drop, codes, Ok, Err, Result}
 use Rattle.std.specs.List.{flat_map}
 use Rattle.std.specs.Simd.{first_chunks}
 use Rattle.std.specs.Slice.Iter.{chunk_count}
@@ -31,7 +31,11 @@ unfoldable pub listed : ℕ → ℕ → List ℕ → List ℕ
 listed zero place tape = rows_of (drop place tape)
 listed (suc n) place tape = listed_by (record_of turn.Any place (drop place tape)) (λ size. listed n (place + size) tape) (drop place tape)
 
--- The text of a whole tape, which has fewer records than bytes.
+-- The lines from the place on; what is left there has fewer records than bytes.
+abbrev pub left : ℕ → List ℕ → List ℕ
+left place tape = listed (length tape - place) place tape
+
+-- The text of a whole tape.
 abbrev pub text_of : List ℕ → List ℕ
 text_of tape = listed (length tape) 0 tape
 

@@ -1,7 +1,7 @@
 // A tape read record by record, and listed as text.
-ghost use Rattle.std.specs.Prelude.{◌≡◌, ◌++◌, IfOk, OnOk, Ok};
+ghost use Rattle.std.specs.Prelude.{◌≡◌, ◌++◌, drop, IfOk, OnOk, Ok};
 ghost use Rattle.tape_text.specs.Reading.{tape_of};
-ghost use Rattle.tape_text.specs.Listing.{line_of, rows_of, text_of, EveryRecordIsListed};
+ghost use Rattle.tape_text.specs.Listing.{line_of, rows_of, left, text_of, EveryRecordIsListed};
 
 use std::alloc::{AllocError, Global};
 use tape::{Reader, Turn};
@@ -11,7 +11,7 @@ use text::one_apart;
 const ROW: usize = 16;
 
 // The text of the tape, whatever its bytes are. Punching it gives the tape again. Fails for want of memory alone.
-#[tactic(auto, using(crate::proofs::Enough::every_record_is_listed))]
+#[tactic(auto, using(crate::proofs::Enough::every_record_is_listed, crate::proofs::Enough::left_all, crate::proofs::Again::punched_again))]
 pub fn list(heap: Global, tape: &[u8]) -> Result<Vec<u8>, AllocError>
     ensures text { IfOk result (λ text. text.items ≡ text_of tape.now) }
     ensures again { IfOk result (λ text. tape_of text.items ≡ Ok tape.now) }
@@ -19,16 +19,26 @@ pub fn list(heap: Global, tape: &[u8]) -> Result<Vec<u8>, AllocError>
 {
     let mut text = Vec::new(heap);
     let mut reader = Reader::new(tape);
-    while let Ok(record) = reader.peek(Turn::Any) {
-        let (mark, fields) = tape[reader.place..][..record.size()].split_at(2);
-        put_line(&mut text, mark, fields)?;
-        reader.pass(record);
-    }
-    put_rows(&mut text, &tape[reader.place..])?;
+    put_records(&mut text, &mut reader)?;
+    put_rows(&mut text, reader.rest())?;
     Ok(text)
 }
 
+// Writes the lines of the records, up to where no whole one begins.
+#[tactic(auto, using(crate::proofs::Enough::left_record, crate::proofs::Enough::left_rest, std::proofs::lemmas::Grind::common_steps))]
+fn put_records(text: &mut Vec<u8>, reader: &mut Reader) -> Result<(), AllocError>
+    ensures { OnOk result (text.new.items ++ rows_of (drop reader.new.place reader.new.tape.now) ≡ text.old.items ++ left reader.old.place reader.old.tape.now) }
+{
+    while let Ok(record) = reader.peek(Turn::Any) {
+        let (mark, fields) = reader.rest()[..record.size()].split_at(2);
+        put_line(text, mark, fields)?;
+        reader.pass(record);
+    }
+    Ok(())
+}
+
 // Writes the lines of bytes that belong to no record.
+#[tactic(auto, using(crate::proofs::Enough::rows_first, std::proofs::lemmas::Grind::common_steps))]
 fn put_rows(text: &mut Vec<u8>, bytes: &[u8]) -> Result<(), AllocError>
     ensures { OnOk result (text.new.items ≡ text.old.items ++ rows_of bytes.now) }
 {

@@ -1,6 +1,6 @@
 // A text read line by line, and punched.
-ghost use Rattle.std.specs.Prelude.{◌≡◌, ◌+◌, ◌<◌, ◌≤◌, length};
-ghost use Rattle.tape_text.specs.Reading.{byte_of, fault, bytes_from, line_at, tape_of, Reads, Punched};
+ghost use Rattle.std.specs.Prelude.{◌≡◌, ◌+◌, ◌<◌, ◌≤◌, [], ◌∷◌, length};
+ghost use Rattle.tape_text.specs.Reading.{before, byte_of, fault, bytes_from, line_at, tape_of, Reads, Punched};
 
 use crate::fault::{Expected, PunchError, TextFault};
 use std::alloc::Global;
@@ -13,22 +13,32 @@ struct Line<'a> {
 }
 
 // The tape that the text stands for. Fails where the text is no tape's, at the first such place, and for want of memory.
+#[tactic(auto, using(crate::proofs::Punching::punched, crate::proofs::Punching::not_punched))]
 pub fn punch(heap: Global, text: &[u8]) -> Result<Vec<u8>, PunchError>
     ensures { Punched (tape_of text.now) result }
 {
     let mut tape = Vec::new(heap);
+    read_lines(text, &mut tape)?;
+    Ok(tape)
+}
+
+// Punches the lines of the text, which are counted from 1.
+fn read_lines(text: &[u8], tape: &mut Vec<u8>) -> Result<(), PunchError>
+    ensures { Reads (tape_of text.now) tape.old.items result tape.new.items }
+{
     for (n, text) in text.split(|byte| *byte == b'\n').enumerate() {
         let line = Line {
             number: n + 1,
             text,
         };
-        line.read(&mut tape)?;
+        line.read(tape)?;
     }
-    Ok(tape)
+    Ok(())
 }
 
 impl Line<'_> {
     // Punches the line, unless it is blank.
+    #[tactic(auto, using(crate::proofs::Punching::marked_line, std::proofs::lemmas::Bool::Decides::nat_tests, std::proofs::lemmas::List::take_all))]
     fn read(&self, tape: &mut Vec<u8>) -> Result<(), PunchError>
         ensures { Reads (line_at self.now.number self.now.text.now) tape.old.items result tape.new.items }
     {
@@ -39,12 +49,27 @@ impl Line<'_> {
                 [b' ' | b'\t' | b'\r', after @ ..] => rest = after,
                 [b'.', b'.', bytes @ ..] => return self.read_bytes(bytes, tape),
                 [first @ b'A'..=b'Z', second @ b'A'..=b'Z', bytes @ ..] => {
-                    tape.extend_from_slice(&[*first, *second])?;
-                    return self.read_bytes(bytes, tape);
+                    return self.read_record(*first, *second, bytes, tape);
                 }
                 _ => return Err(PunchError::Text(self.fault(rest, Expected::Mark))),
             }
         }
+    }
+
+    // Punches a mark and the bytes after it.
+    #[tactic(auto, using(crate::proofs::Punching::reads_before))]
+    fn read_record(
+        &self,
+        first: u8,
+        second: u8,
+        bytes: &[u8],
+        tape: &mut Vec<u8>,
+    ) -> Result<(), PunchError>
+        requires { length bytes.now ≤ length self.now.text.now }
+        ensures { Reads (before (first ∷ second ∷ []) (bytes_from self.now.number (length self.now.text.now + 1) bytes.now)) tape.old.items result tape.new.items }
+    {
+        tape.extend_from_slice(&[first, second])?;
+        self.read_bytes(bytes, tape)
     }
 
     // Punches the bytes in the rest of the line, up to a comment.

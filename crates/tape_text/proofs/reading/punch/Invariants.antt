@@ -1,7 +1,0 @@
-use Rattle.std.proofs.Common.{◌≡◌, ◌+◌, ◌==◌, length, drop}
-use Rattle.std.specs.List.{slice_split}
-use Rattle.tape_text.specs.Reading.{tape_of, lines_from, before}
-use Rattle.tape_text.proofs.reading.punch.Given as goal
-
-abbrev pub invariant-loop-n : goal.invariant-loop-n
-invariant-loop-n l = before l.tape.items (lines_from (length l.yielded + 1) (drop (length l.yielded) (slice_split (λ c. c == 10) l.text))) ≡ tape_of l.text
