@@ -52,6 +52,11 @@ impl Exchange {
         self.live.ring(&mut self.bus, &mut self.sheet, vector)
     }
 
+    // A ring that is taken.
+    pub fn rung(&mut self, rt: &impl Abort) {
+        assert_eq!(rt; self.ring(VECTOR), Ok(()));
+    }
+
     pub fn run(&mut self, n: u16) -> Result<Report, Refusal> {
         self.live.run(&mut self.bus, &mut self.sheet, n)
     }

@@ -1,9 +1,11 @@
 // How visits end, and that a clean one leaves no trace.
-use crate::exchange::{RAM_END, VECTOR, begun, ended};
+use crate::exchange::{Exchange, RAM_END, begun, ended};
 use bus::Bus;
+use engine::Report;
 use noninterference::{Letter, VisitEnd};
 use reading::is_stained;
 use registers::Mar;
+use std::process::Abort;
 use std::test::Fail;
 
 // A handler, its number of steps, and how its visit ends: it is marred by the first part that the handler does not give back.
@@ -31,16 +33,21 @@ const CASES: [Case; 9] = [
     (&[0x9C, 0x9E], 2, VisitEnd::Marred(Mar::E)),
 ];
 
+fn try_case(rt: &(impl Abort + AllocGlobal), case: &Case) -> Result<(), Fail> {
+    let (handler, steps, end) = *case;
+    let mut exchange = begun(rt, &[0x88], handler, 1024)?;
+    exchange.rung(rt);
+    let report = exchange.run(steps)?;
+    assert_eq!(rt; (report.done, ended(report)), (steps, Some(end)));
+    // No visit is open any more.
+    exchange.rung(rt);
+    Ok(())
+}
+
 #[test]
 fn ends(rt: HostRuntime) -> Result<(), Fail> {
-    for (handler, steps, end) in CASES {
-        let mut exchange = begun(&rt, &[0x88], handler, 1024)?;
-        assert_eq!(rt; exchange.ring(VECTOR), Ok(()));
-        let report = exchange.run(steps)?;
-        assert_eq!(rt; report.done, steps);
-        assert_eq!(rt; ended(report), Some(end));
-        // No visit is open any more.
-        assert_eq!(rt; exchange.ring(VECTOR), Ok(()));
+    for case in &CASES {
+        try_case(&rt, case)?;
     }
     Ok(())
 }
@@ -59,31 +66,47 @@ const HANDLER: [u8; 12] = [
 
 const HANDLER_STEPS: u16 = 9;
 
-// A ring between every two instructions ends as the run that is not rung: with the same read-out, and the same bytes but where the
-// handler was the last to store.
+fn ready(rt: &(impl Abort + AllocGlobal)) -> Result<Exchange, Fail> {
+    begun(rt, &PROGRAM, &HANDLER, 1024)
+}
+
+// A run of all its steps.
+fn run(rt: &impl Abort, exchange: &mut Exchange, n: u16) -> Result<Report, Fail> {
+    let report = exchange.run(n)?;
+    assert_eq!(rt; report.letter, Letter::Done);
+    Ok(report)
+}
+
+// A run that is rung after `k` steps.
+fn rung_after(rt: &impl Abort, exchange: &mut Exchange, k: u16) -> Result<(), Fail> {
+    run(rt, exchange, k)?;
+    exchange.rung(rt);
+    let visit = run(rt, exchange, HANDLER_STEPS)?;
+    assert_eq!(rt; ended(visit), Some(VisitEnd::Clean));
+    run(rt, exchange, STEPS.saturating_sub(k))?;
+    Ok(())
+}
+
+// The same read-out, and the same bytes but where the handler was the last to store.
+fn alike(rt: &impl Abort, rung: &Exchange, undisturbed: &Exchange) {
+    assert_eq!(rt; is_stained(&rung.sheet, 0x2001), true);
+    assert_eq!(rt; rung.bus.read(0x2001), Ok(0x77));
+    for address in 0..RAM_END {
+        if !is_stained(&rung.sheet, address) {
+            assert_eq!(rt; rung.bus.read(address), undisturbed.bus.read(address));
+        }
+    }
+}
+
+// A ring between every two instructions ends as the run that is not rung.
 #[test]
 fn rung_anywhere(rt: HostRuntime) -> Result<(), Fail> {
     for k in 0..=STEPS {
-        let mut undisturbed = begun(&rt, &PROGRAM, &HANDLER, 1024)?;
-        let whole = undisturbed.run(STEPS)?;
-        assert_eq!(rt; whole.letter, Letter::Done);
-
-        let mut rung = begun(&rt, &PROGRAM, &HANDLER, 1024)?;
-        let first = rung.run(k)?;
-        assert_eq!(rt; first.letter, Letter::Done);
-        assert_eq!(rt; rung.ring(VECTOR), Ok(()));
-        let visit = rung.run(HANDLER_STEPS)?;
-        assert_eq!(rt; ended(visit), Some(VisitEnd::Clean));
-        let rest = rung.run(STEPS - k)?;
-        assert_eq!(rt; rest.letter, Letter::Done);
-
-        assert_eq!(rt; is_stained(&rung.sheet, 0x2001), true);
-        assert_eq!(rt; rung.bus.read(0x2001), Ok(0x77));
-        for address in 0..RAM_END {
-            if !is_stained(&rung.sheet, address) {
-                assert_eq!(rt; rung.bus.read(address), undisturbed.bus.read(address));
-            }
-        }
+        let mut undisturbed = ready(&rt)?;
+        run(&rt, &mut undisturbed, STEPS)?;
+        let mut rung = ready(&rt)?;
+        rung_after(&rt, &mut rung, k)?;
+        alike(&rt, &rung, &undisturbed);
         assert_eq!(rt; rung.live.end(), undisturbed.live.end());
     }
     Ok(())
