@@ -1,6 +1,6 @@
 // Where an operand in memory is, what its bytes are, and which pair is moved.
 use addressing::{base_address, data_row, move_pair, read_operand};
-use bus::Ram;
+use bus::{Bus, Ram};
 use byte_rows::Row;
 use decode::{Base, Form, Mode};
 use reading::BusReader;
@@ -9,12 +9,14 @@ use std::process::Abort;
 use std::test::Fail;
 
 // The byte at an address is the sum of the address's two bytes.
-fn ram(rt: &impl AllocGlobal) -> Result<Ram, Fail> {
-    let mut bytes = vec![in rt.alloc(); 0u8; 65_536]?;
-    for (i, byte) in bytes.iter_mut().enumerate() {
-        *byte = ((i / 256 + i) % 256) as u8;
+fn ram(rt: &(impl Abort + AllocGlobal)) -> Result<Ram, Fail> {
+    let bytes = vec![in rt.alloc(); 0u8; 65_536]?;
+    let mut ram = Ram { base: 0, bytes };
+    for address in 0..=65_535u16 {
+        let [low, high] = address.to_le_bytes();
+        assert_eq!(rt; ram.store(address, low.wrapping_add(high)), Ok(()));
     }
-    Ok(Ram { base: 0, bytes })
+    Ok(ram)
 }
 
 // ARP is R20, which holds the pair; from DRP, R42, a multi form spans six registers.

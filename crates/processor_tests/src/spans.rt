@@ -4,12 +4,16 @@ use registers::{Cpu, Form, span};
 // From R42 on an instruction works on six registers, not on eight.
 #[test]
 fn six_from_r42(rt: HostRuntime) {
-    assert_eq!(rt; span(Form::Multi, 0o42), 6);
-    assert_eq!(rt; span(Form::Multi, 0o40), 8);
-    assert_eq!(rt; span(Form::Multi, 0o77), 1);
-    assert_eq!(rt; span(Form::Multi, 0o30), 2);
-    assert_eq!(rt; span(Form::Multi, 0o31), 1);
-    assert_eq!(rt; span(Form::Byte, 0o40), 1);
+    for (form, drp, registers) in [
+        (Form::Multi, 0o42, 6),
+        (Form::Multi, 0o40, 8),
+        (Form::Multi, 0o77, 1),
+        (Form::Multi, 0o30, 2),
+        (Form::Multi, 0o31, 1),
+        (Form::Byte, 0o40, 1),
+    ] {
+        assert_eq!(rt; span(form, drp), registers, "{drp}");
+    }
 }
 
 #[test]
