@@ -1,7 +1,6 @@
 -- Each record that is played takes bytes of the tape, and a refused one is the last.
-use Rattle.std.proofs.Common.{◌≡◌, ℕ, zero, suc, ◌+◌, ◌-◌, ◌<◌, ◌⊎◌, inl, inr, true, false, cond, List, [], ◌++◌, length, min, take, sym, refl, ap, ◌∙◌, arith}
+use Rattle.std.proofs.Common.{◌≡◌, ℕ, zero, suc, ◌+◌, ◌-◌, ◌<◌, ◌⊎◌, inl, inr, true, false, cond, List, [], ◌++◌, length, sym, refl, ap, ◌∙◌, arith}
 use Rattle.std.proofs.lemmas.Grind.{common_steps}
-use Rattle.std.proofs.lemmas.List.{take_min}
 use Rattle.tape.proofs.Sizes.{record_fits}
 use Rattle.play.specs.Lines.{lines_of}
 use Rattle.play.specs.Work.{refused}
@@ -38,11 +37,10 @@ every_record_is_played tape more = agree (length tape + 1 + more) (length tape +
 pub left : List ℕ → World → List ℕ
 left tape w = printed (suc (length tape - w.place)) tape w
 
-pub left_at_start : (n size : ℕ) (tape tape' text : List ℕ) (w : World) → size ≡ min (length tape) n → tape' ≡ take size tape → w ≡ start → text ≡ [] → text ++ left tape' w ≡ transcript_of (take n tape)
+pub left_at_start : (tape tape' text : List ℕ) (w : World) → tape' ≡ tape → w ≡ start → text ≡ [] → text ++ left tape' w ≡ transcript_of tape
 unfolding left
-left_at_start n size tape tape' text w m t s e =
-    let cut : tape' ≡ take n tape = grind (arith, common_steps, take_min) in
-    (λ i. e i ++ left (cut i) (s i)) ∙ agree (suc (length (take n tape) - 0)) (length (take n tape) + 1) (take n tape) start (inr (omega arith)) (inr (omega arith))
+left_at_start tape tape' text w t s e =
+    (λ i. e i ++ left (t i) (s i)) ∙ agree (suc (length tape - 0)) (length tape + 1) tape start (inr (omega arith)) (inr (omega arith))
 
 pub left_over : (tape text whole : List ℕ) (w : World) → over_of w.scene.stage tape w.place ≡ true → text ++ left tape w ≡ whole → text ≡ whole
 unfolding left printed

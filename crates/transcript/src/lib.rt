@@ -19,8 +19,22 @@ pub fn transcribe(heap: Global, tape: &[u8]) -> Result<Vec<u8>, AllocError>
     ensures made { IfOk result (λ v. v.items ≡ transcript_of (take 16384 tape.now)) }
     ensures to_the_end { EveryRecordIsPlayed }
 {
-    let size = tape.len().min(TAPE_SIZE);
-    let mut session = Session::new(heap, &tape[..size])?;
+    // With `?`, so that the proof has the text itself.
+    Ok(play_tape(heap, front(tape))?)
+}
+
+// The bytes of the tape that are played.
+fn front(tape: &[u8]) -> &[u8]
+    ensures { result.now ≡ take 16384 tape.now }
+{
+    &tape[..TAPE_SIZE.min(tape.len())]
+}
+
+// The same of a tape of any size.
+fn play_tape(heap: Global, tape: &[u8]) -> Result<Vec<u8>, AllocError>
+    ensures { IfOk result (λ v. v.items ≡ transcript_of tape.now) }
+{
+    let mut session = Session::new(heap, tape)?;
     while !session.player.is_over() {
         session.play_record()?;
     }

@@ -1,5 +1,6 @@
 // A tape that is being played, with all that the player works on.
 ghost use Rattle.std.specs.Prelude.{◌≡◌, ◌++◌, [], IfOk, OnOk};
+ghost use Rattle.byte_rows.specs.Rows.{zeros};
 ghost use Rattle.play.specs.Lines.{lines_of};
 ghost use Rattle.transcript.specs.Printed.{start};
 ghost use Rattle.transcript.specs.Sessions.{tape_in, world_in, next_in};
@@ -29,7 +30,7 @@ impl<'a> Session<'a> {
         Ok(Session {
             player: Player::new(tape),
             memory: Memory::new(heap)?,
-            sheet: [0; SHEET_SIZE],
+            sheet: clean_sheet(),
             lines: [0; BUFFER_SIZE],
             text: Vec::new(heap),
         })
@@ -46,4 +47,11 @@ impl<'a> Session<'a> {
             .play(&mut self.memory, &mut self.sheet, &mut self.lines);
         self.text.extend_from_slice(&self.lines[..played.wrote])
     }
+}
+
+// A sheet with no stain.
+fn clean_sheet() -> [u8; SHEET_SIZE]
+    ensures { result ≡ zeros 8192 }
+{
+    [0; SHEET_SIZE]
 }
