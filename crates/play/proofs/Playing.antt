@@ -7,9 +7,8 @@ use Rattle.std.specs.Simd.{first_chunks}
 use Rattle.byte_rows.specs.Rows.{over}
 use Rattle.byte_rows.proofs.Writing.{over_over}
 use Rattle.text.specs.declared.Piece.{Piece}
-use Rattle.text.specs.declared.Piece.TheVariants.{Byte, Octal2, Row}
 use Rattle.text.specs.Pieces.{spelled, joined}
-use Rattle.play.specs.Lines.{register_line}
+use Rattle.play.specs.Lines.{row_line, register_line}
 
 over_left : (a b : List ℕ) (i : ℕ) (s : List ℕ) → i + length s ≤ length a → over (a ++ b) i s ≡ over a i s ++ b
 unfolding over
@@ -48,9 +47,9 @@ lines_more f a zero j e = let d : a ≡ j = omega (arith, e) in append-nil (f a)
 lines_more f a (suc k) j e = ap (λ t. f a ++ t) (lines_more f (a + 1) k j (omega (arith, e))) ∙ sym (append_assoc (f a) (flat_map f (range_with_len (a + 1) k)) (f j))
 
 -- one line of registers more
-pub line_more : (row row' row'' : List ℕ) (n m : ℕ) (ps : List Piece) (rs : List ℕ) (k : ℕ) → k < 8 → Put row row' 0 n (ps ++ flat_map (register_line rs) (range_with_len 0 k)) → Put row' row'' n m (Byte 82 ∷ Octal2 (8 * k) ∷ Row (get_or (first_chunks 8 8 rs) k []) ∷ Byte 10 ∷ []) → Put row row'' 0 m (ps ++ flat_map (register_line rs) (range_with_len 0 (k + 1)))
+pub line_more : (row row' row'' : List ℕ) (n m : ℕ) (ps : List Piece) (rs : List ℕ) (k : ℕ) → k < 8 → Put row row' 0 n (ps ++ flat_map (register_line rs) (range_with_len 0 k)) → Put row' row'' n m (row_line k (get_or (first_chunks 8 8 rs) k [])) → Put row row'' 0 m (ps ++ flat_map (register_line rs) (range_with_len 0 (k + 1)))
 line_more row row' row'' n m ps rs k h p q =
     let eight : 8 ≡ 8 * k + 8 - 8 * k = omega arith in
     let same : get_or (first_chunks 8 8 rs) k [] ≡ slice_range rs (8 * k) (8 * k + 8) = chunk_at 8 8 k rs h ∙ ap (λ m. take m (drop (8 * k) rs)) eight in
-    let w : Put row row'' 0 m ((ps ++ flat_map (register_line rs) (range_with_len 0 k)) ++ register_line rs k) = put_more row row' row'' 0 n m _ (register_line rs k) p (subst (λ t. Put row' row'' n m (Byte 82 ∷ Octal2 (8 * k) ∷ Row t ∷ Byte 10 ∷ [])) same q) in
+    let w : Put row row'' 0 m ((ps ++ flat_map (register_line rs) (range_with_len 0 k)) ++ register_line rs k) = put_more row row' row'' 0 n m _ (register_line rs k) p (subst (λ t. Put row' row'' n m (row_line k t)) same q) in
     rw (add-one, lines_more (register_line rs) 0 k k (zero-add k), ← append_assoc) w

@@ -1,8 +1,8 @@
 // The lines that a record prints.
-ghost use Rattle.std.specs.Prelude.{◌≡◌, ◌+◌, ◌≤◌, length, IfSome};
+ghost use Rattle.std.specs.Prelude.{◌≡◌, ◌+◌, ◌<◌, ◌≤◌, length, IfSome};
 ghost use Rattle.byte_rows.specs.Rows.{over};
 ghost use Rattle.text.specs.Pieces.{joined, room, widest};
-ghost use Rattle.play.specs.Lines.{Lined, end_lines, letter_byte, last_detail, run_line, ring_number, ring_line, no_line, lines_of};
+ghost use Rattle.play.specs.Lines.{Lined, end_lines, letter_byte, last_detail, row_line, run_line, ring_number, ring_line, no_line, lines_of};
 
 use crate::fault::{Event, PlayFault, Refusal};
 use engine::{ReadOut, Report};
@@ -20,6 +20,27 @@ fn put_pieces(out: &mut [u8; BUFFER_SIZE], at: usize, pieces: &[Piece]) -> usize
     ensures room { result ≤ at + room pieces.now }
 {
     put(out, at, pieces).unwrap()
+}
+
+// Writes the line of eight registers, the first of which is 8 * n.
+fn put_registers(out: &mut [u8; BUFFER_SIZE], at: usize, n: usize, row: &[u8; 8]) -> usize
+    requires few { n < 8 }
+    requires space { at + 28 ≤ 512 }
+    ensures after { out.new ≡ over out.old at (joined (row_line n row.now)) }
+    ensures place { result ≡ at + length (joined (row_line n row.now)) }
+    ensures room { result ≤ at + 28 }
+{
+    let first = Piece::Octal2(8 * n as u8);
+    put_pieces(
+        out,
+        at,
+        &[
+            Piece::Byte(b'R'),
+            first,
+            Piece::Row(*row),
+            Piece::Byte(b'\n'),
+        ],
+    )
 }
 
 // The EN line, and eight lines of registers.
@@ -45,12 +66,7 @@ fn put_end(out: &mut [u8; BUFFER_SIZE], read_out: ReadOut) -> usize
     );
     let (rows, _) = read_out.registers.as_chunks::<8>();
     for (n, row) in rows.iter().enumerate() {
-        let first = Piece::Octal2(8 * n as u8);
-        wrote = put_pieces(
-            out,
-            wrote,
-            &[Piece::Byte(b'R'), first, Piece::Row(*row), newline],
-        );
+        wrote = put_registers(out, wrote, n, row);
     }
     wrote
 }
