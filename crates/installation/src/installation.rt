@@ -34,7 +34,7 @@ impl Installation {
         Ok(Installation {
             phase: Phase::Loading(Cold),
             memory: Memory::new(heap)?,
-            sheet: [0; SHEET_SIZE],
+            sheet: clean_sheet(),
         })
     }
 
@@ -117,4 +117,11 @@ impl Installation {
             }
         }
     }
+}
+
+// A sheet with no stain.
+fn clean_sheet() -> [u8; SHEET_SIZE]
+    ensures { result ≡ unstained }
+{
+    [0; SHEET_SIZE]
 }
