@@ -16,8 +16,7 @@ use registers::{Cpu, span};
 fn literal_pair(literal: &Row) -> u16
     ensures { result ≡ literal_pair (bytes_of literal.now) }
 {
-    let literal = literal.as_slice();
-    u16::from_le_bytes([byte_at(literal, 0), byte_at(literal, 1)])
+    literal.pair()
 }
 
 // How far a stack pointer moves.

@@ -8,4 +8,4 @@ mod operands;
 
 pub use addresses::{address_of, base_address, move_pair};
 pub use fetching::{Fetched, fetch, pass};
-pub use operands::{data_row, read_operand};
+pub use operands::read_operand;

@@ -21,24 +21,7 @@ pub fn read_bytes<B: Bus>(reader: &mut BusReader<B>, address: u16, n: usize) -> 
 {
     let mut bytes = [0; 8];
     reader.row(address, &mut bytes[..n])?;
-    Ok(Row { bytes, len: n })
-}
-
-// The n registers from k on.
-fn register_row(cpu: &Cpu, k: u8, n: usize) -> Row
-    requires { n ≤ 8 }
-    ensures { bytes_of result ≡ row_at cpu.now.registers k n }
-{
-    let mut bytes = [0; 8];
-    cpu.read_row(k, &mut bytes[..n]);
-    Row { bytes, len: n }
-}
-
-// The registers that the form works on.
-pub fn data_row(cpu: &Cpu, form: Form) -> Row
-    ensures { bytes_of result ≡ data_of form (state_of cpu.now) }
-{
-    register_row(cpu, cpu.drp, span(form, cpu.drp))
+    Ok(Row::new(bytes, n))
 }
 
 // Reads n bytes of memory, from the address on that the base gives.
@@ -68,7 +51,7 @@ pub fn read_operand<B: Bus>(
     let n = span(form, cpu.drp);
     match mode {
         None => Ok(Row::empty()),
-        Some(Mode::Register) => Ok(register_row(cpu, cpu.arp, n)),
+        Some(Mode::Register) => Ok(cpu.row(cpu.arp, form)),
         Some(Mode::Immediate) => Ok(*literal),
         Some(Mode::Memory { base, indirect }) => {
             let at = base_address(cpu, base, indirect, form, literal);

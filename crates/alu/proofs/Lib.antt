@@ -1,3 +1,4 @@
 pub mod Shifting
 pub mod Overflow
 pub mod Signs
+pub mod Wholes

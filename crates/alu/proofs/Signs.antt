@@ -28,9 +28,13 @@ sized_lawful zero ys h = tt
 sized_lawful (suc n) ys h = (first_lawful binary binary_laws ys h, sized_lawful n (others ys) (others_lawful binary binary_laws ys h))
 
 -- a chain looks at its operand as at one of the data's length
-row_sized : (s : System) (l : Link) (xs ys : List ℕ) (c : Bool) → row_of s l xs ys c ≡ row_of s l xs (sized (length xs) ys) c
+pub row_sized : (s : System) (l : Link) (xs ys : List ℕ) (c : Bool) → row_of s l xs ys c ≡ row_of s l xs (sized (length xs) ys) c
 row_sized s l [] ys c = refl
 row_sized s l (x ∷ xs) ys c = ap (λ t. (linked s l x (first ys) c).0 ∷ t) (row_sized s l xs (others ys) (linked s l x (first ys) c).1)
+
+pub carry_sized : (s : System) (l : Link) (xs ys : List ℕ) (c : Bool) → carry_of s l xs ys c ≡ carry_of s l xs (sized (length xs) ys) c
+carry_sized s l [] ys c = refl
+carry_sized s l (x ∷ xs) ys c = carry_sized s l xs (others ys) (linked s l x (first ys) c).1
 
 -- the top bit tells in which half of its numbers a row's number stands
 top : (x : ℕ) (xs : List ℕ) → Lawful binary (x ∷ xs) → leb 128 (get_or (x ∷ xs) (length xs) 0) ≡ leb (256 ^ length xs * 256) (2 * number binary (x ∷ xs))

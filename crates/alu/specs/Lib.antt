@@ -5,3 +5,4 @@ pub mod Signed
 pub mod Sums
 pub mod Operations
 pub mod Examples
+pub mod Words

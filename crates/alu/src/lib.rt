@@ -7,6 +7,7 @@ mod operations;
 mod shift;
 mod status;
 mod sums;
+mod words;
 
 pub use examples::worked_examples;
 pub use logic::{Logic, join};
@@ -14,3 +15,4 @@ pub use operations::{Flags, NotDecimal, Operation, operate};
 pub use shift::{Unit, shift_left, shift_right};
 pub use status::see;
 pub use sums::{Carried, combine};
+pub use words::{Worked, operate_row, see_row};

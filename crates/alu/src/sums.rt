@@ -17,7 +17,7 @@ pub struct Carried {
 }
 
 // Whether two numbers of one sign have a sum of the other; which two numbers a link adds, if any, goes by its case.
-fn overflows(op: Link, a: bool, b: bool, outcome: bool) -> bool
+pub(crate) fn overflows(op: Link, a: bool, b: bool, outcome: bool) -> bool
     ensures { result ≡ signs_of op a b outcome }
 {
     let (a, b) = match op {

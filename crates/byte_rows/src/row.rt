@@ -1,13 +1,14 @@
 // Up to eight bytes.
-ghost use Rattle.std.specs.Prelude.{◌≤◌};
+ghost use Rattle.std.specs.Prelude.{◌≤◌, ◌<◌, ◌*◌, ◌^◌};
 
 pub mod view;
 
-// A length stands beside the bytes, since a row is Copy and lies on no heap, and arrayvec's vector is not Copy. Equality is not
-// derived: it would compare the places past the length too.
-#[derive(Clone, Copy, Debug)]
+// The bytes are those of a number, the lowest first, so that a row passes from call to call as a word and a length. The bytes
+// of the word above the length are zero.
+#[derive(Clone, Copy, PartialEq, Eq, Debug)]
 pub struct Row {
-    pub bytes: [u8; 8],
-    pub len: usize,
+    pub word: u64,
+    pub len: u8,
     ghost short: { len ≤ 8 },
+    ghost cut: { word < 2 ^ (8 * len) },
 }

@@ -37,10 +37,7 @@ pub fn call<B: Bus>(
     cpu.set_pair(4, address);
     Ok(Executed {
         at,
-        bytes: Row {
-            bytes: [low, high, 0, 0, 0, 0, 0, 0],
-            len: 2,
-        },
+        bytes: Row::new([low, high, 0, 0, 0, 0, 0, 0], 2),
         ..Executed::still(1 + literal.count())
     })
 }

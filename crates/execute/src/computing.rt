@@ -9,8 +9,8 @@ ghost use Rattle.execute.specs.Instructions.{keeps as keeps_row, moved_by, with_
 ghost use Rattle.execute.specs.Models.{plan_of, if_ok};
 
 use crate::executed::Executed;
-use addressing::{data_row, move_pair, read_operand};
-use alu::{Flags, NotDecimal, Operation, operate};
+use addressing::{move_pair, read_operand};
+use alu::{Flags, Operation, Worked, operate_row};
 use bus::Bus;
 use byte_rows::Row;
 use decode::{Form, Mode};
@@ -38,25 +38,10 @@ fn write_done(cpu: &mut Cpu, op: Operation, row: &Row, flags: Flags)
     ensures { state_of cpu.new ≡ with_done op (state_of cpu.old) (done (bytes_of row.now) flags) }
 {
     if keeps(op) {
-        cpu.write_row(cpu.drp, row.as_slice());
+        cpu.set_row(cpu.drp, *row);
     }
     cpu.status = flags.status;
     cpu.e = flags.e % 16;
-}
-
-// Works on a row in place.
-fn operate_row(
-    op: Operation,
-    flags: Flags,
-    row: &mut Row,
-    operand: &Row,
-) -> Result<Flags, NotDecimal>
-    ensures { left (bytes_of row.new) result ≡ operated op flags (bytes_of row.old) (bytes_of operand.now) }
-{
-    let mut bytes = row.bytes;
-    let done = operate(op, flags, &mut bytes[..row.len], operand.as_slice());
-    row.bytes = bytes;
-    done
 }
 
 // Works on the data with the operand that was read, and writes what comes of them over the pair that the mode moves.
@@ -75,8 +60,8 @@ fn compute_with(
         status: cpu.status,
         e: cpu.e,
     };
-    let mut row = data_row(cpu, form);
-    let flags = operate_row(op, flags, &mut row, operand).map_err(Fault::NotDecimal)?;
+    let data = cpu.row(cpu.drp, form);
+    let Worked { row, flags } = operate_row(op, flags, &data, operand).map_err(Fault::NotDecimal)?;
     move_by(cpu, mode, form, literal);
     write_done(cpu, op, &row, flags);
     Ok(Executed::still(1 + literal.count()))

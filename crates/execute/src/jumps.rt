@@ -46,7 +46,7 @@ pub fn jump(cpu: &mut Cpu, condition: Condition, literal: &Row)
     ensures { state_of cpu.new ≡ jumped_to condition (state_of cpu.old) (bytes_of literal.now) }
 {
     if is_met(condition, cpu.status, cpu.e) {
-        let to = target(cpu.pc(), byte_at(literal.as_slice(), 0));
+        let to = target(cpu.pc(), literal.first());
         cpu.set_pair(4, to);
     }
 }

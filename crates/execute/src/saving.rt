@@ -31,10 +31,7 @@ pub fn saved_bytes(cpu: &Cpu) -> Row
     let first = pointer_byte(cpu.arp, s.cy, s.ovf);
     let second = pointer_byte(cpu.drp, s.dcm, s.z);
     let third = status_nibble(s.lsb, s.msb, s.ldz, s.rdz);
-    Row {
-        bytes: [first, second, third, 0, 0, 0, 0, 0],
-        len: 3,
-    }
+    Row::new([first, second, third, 0, 0, 0, 0, 0], 3)
 }
 
 fn status_of(first: u8, second: u8, third: u8) -> Status

@@ -10,8 +10,8 @@ ghost use Rattle.execute.specs.Plans.{settled};
 
 use crate::computing::move_by;
 use crate::executed::Executed;
-use addressing::{address_of, base_address, data_row};
-use alu::see;
+use addressing::{address_of, base_address};
+use alu::see_row;
 use bus::Bus;
 use byte_rows::Row;
 use decode::{Form, Mode};
@@ -22,7 +22,7 @@ use registers::Cpu;
 fn see_data(cpu: &mut Cpu, row: &Row)
     ensures { state_of cpu.new ≡ with_seen (state_of cpu.old) (bytes_of row.now) }
 {
-    cpu.status = see(cpu.status, false, false, row.as_slice());
+    cpu.status = see_row(cpu.status, false, false, row);
 }
 
 // Stores the data to an address that the mode gave.
@@ -37,8 +37,8 @@ fn store_data<B: Bus>(
     ensures outcome { ReadsBy B.Bus.meaning reader.now (settled (stored_memory mode form (state_of cpu.old) (bytes_of literal.now) at)) (map_ok (plan_of (state_of cpu.new)) result) reader.now }
     ensures refused { state_of cpu.new ≡ if_ok result (state_of cpu.new) (state_of cpu.old) }
 {
-    let bytes = data_row(cpu, form);
-    reader.inquire(at, bytes.as_slice().len())?;
+    let bytes = cpu.row(cpu.drp, form);
+    reader.inquire(at, bytes.len())?;
     move_by(cpu, Some(mode), form, literal);
     see_data(cpu, &bytes);
     Ok(Executed {
@@ -52,8 +52,8 @@ fn store_data<B: Bus>(
 fn store_registers(cpu: &mut Cpu, form: Form, literal: &Row) -> Executed
     ensures { plan_of (state_of cpu.new) result ≡ stored_registers form (state_of cpu.old) (bytes_of literal.now) }
 {
-    let bytes = data_row(cpu, form);
-    cpu.write_row(cpu.arp, bytes.as_slice());
+    let bytes = cpu.row(cpu.drp, form);
+    cpu.set_row(cpu.arp, bytes);
     see_data(cpu, &bytes);
     Executed::still(1 + literal.count())
 }

@@ -40,9 +40,9 @@ impl Live {
             &reader,
             &mut self.cpu,
             Base::Literal,
-            &Row { bytes, len: 2 },
+            &Row::new(bytes, 2),
         )?;
-        make_stores(bus, sheet, true, jump.at, jump.bytes.as_slice());
+        make_stores(bus, sheet, true, jump.at, &jump.bytes.bytes()[..jump.bytes.len()]);
         self.visit = Some(before);
         Ok(())
     }

@@ -58,7 +58,7 @@ impl Live {
         match carried {
             Ok(executed) => {
                 let stain = self.visit.is_some();
-                make_stores(bus, sheet, stain, executed.at, executed.bytes.as_slice());
+                make_stores(bus, sheet, stain, executed.at, &executed.bytes.bytes()[..executed.bytes.len()]);
                 Ok(Answer {
                     place,
                     length: executed.length,

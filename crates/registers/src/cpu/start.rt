@@ -25,6 +25,7 @@ impl Cpu {
     }
 
     // The program counter.
+    #[inline(always)]
     pub fn pc(&self) -> u16
         ensures { result ≡ pc_of (state_of self.now) }
     {

@@ -1,0 +1,161 @@
+// Operations on rows of up to eight bytes, which are words: sums, differences and loads are worked out at once, and the rest
+// byte by byte.
+ghost use Rattle.std.specs.Prelude.{◌≡◌, false, length};
+ghost use Rattle.byte_rows.specs.Short.{bytes_of};
+ghost use Rattle.counting.specs.Binary.{binary};
+ghost use Rattle.counting.specs.Chain.{row_of, carry_of};
+ghost use Rattle.counting.specs.declared.Link.TheVariants.{Add as Plus, Subtract as Less};
+ghost use Rattle.alu.specs.Seen.{sized, seen};
+ghost use Rattle.alu.specs.Sums.{overflow_of};
+ghost use Rattle.alu.specs.Operations.{shown, summed, lessened, operated};
+ghost use Rattle.alu.specs.Words.{done_of, rows_done};
+
+use crate::operations::{Flags, NotDecimal, Operation, operate};
+use crate::sums::{Carried, overflows};
+use byte_rows::Row;
+use counting::Link;
+use registers::Status;
+
+// What an operation leaves.
+#[derive(Clone, Copy, PartialEq, Eq, Debug)]
+pub struct Worked {
+    pub row: Row,
+    pub flags: Flags,
+}
+
+// A sum or difference, and what is told of it.
+#[derive(Clone, Copy, PartialEq, Eq, Debug)]
+struct Combined {
+    row: Row,
+    carried: Carried,
+}
+
+// The status after a result that is a row.
+#[inline(always)]
+pub fn see_row(status: Status, cy: bool, ovf: bool, row: &Row) -> Status
+    ensures { result ≡ seen status cy ovf (bytes_of row.now) }
+{
+    let first = row.first();
+    let last = row.last();
+    Status {
+        dcm: status.dcm,
+        cy,
+        ovf,
+        lsb: first % 2 == 1,
+        msb: last >= 128,
+        z: row.is_zero(),
+        ldz: last < 16,
+        rdz: first % 16 == 0,
+    }
+}
+
+// The operand with as many bytes as the data has.
+#[inline(always)]
+fn size(data: &Row, operand: &Row) -> Row
+    ensures len { result.len ≡ data.now.len }
+    ensures bytes { bytes_of result ≡ sized (length (bytes_of data.now)) (bytes_of operand.now) }
+{
+    Row::of_word(operand.word, data.len())
+}
+
+// A sum in binary, of rows of one length.
+#[inline(always)]
+fn add(a: &Row, b: &Row) -> Combined
+    requires { a.now.len ≡ b.now.len }
+    ensures row { bytes_of result.row ≡ row_of binary Plus (bytes_of a.now) (bytes_of b.now) false }
+    ensures carry { result.carried.carry ≡ carry_of binary Plus (bytes_of a.now) (bytes_of b.now) false }
+    ensures overflow { result.carried.overflow ≡ overflow_of Plus (bytes_of a.now) (bytes_of b.now) }
+{
+    let row = Row::of_word(a.word.wrapping_add(b.word), a.len());
+    Combined {
+        row,
+        carried: Carried {
+            carry: row.word < a.word,
+            overflow: overflows(Link::Add, a.last() >= 128, b.last() >= 128, row.last() >= 128),
+        },
+    }
+}
+
+// A difference in binary, of rows of one length.
+#[inline(always)]
+fn subtract(a: &Row, b: &Row) -> Combined
+    requires { a.now.len ≡ b.now.len }
+    ensures row { bytes_of result.row ≡ row_of binary Less (bytes_of a.now) (bytes_of b.now) false }
+    ensures carry { result.carried.carry ≡ carry_of binary Less (bytes_of a.now) (bytes_of b.now) false }
+    ensures overflow { result.carried.overflow ≡ overflow_of Less (bytes_of a.now) (bytes_of b.now) }
+{
+    let row = Row::of_word(a.word.wrapping_sub(b.word), a.len());
+    Combined {
+        row,
+        carried: Carried {
+            carry: a.word < b.word,
+            overflow: overflows(Link::Subtract, a.last() >= 128, b.last() >= 128, row.last() >= 128),
+        },
+    }
+}
+
+impl Flags {
+    // With what is seen of a row; E stays.
+    #[inline(always)]
+    fn see_row(self, cy: bool, ovf: bool, row: Row) -> Worked
+        ensures { done_of result ≡ shown self cy ovf (bytes_of row) }
+    {
+        Worked {
+            row,
+            flags: Flags {
+                status: see_row(self.status, cy, ovf, &row),
+                ..self
+            },
+        }
+    }
+
+    #[inline(always)]
+    fn add_row(self, data: &Row, operand: &Row) -> Worked
+        requires { self.status.dcm ≡ false }
+        ensures { done_of result ≡ summed self (bytes_of data.now) (bytes_of operand.now) }
+    {
+        let sum = add(data, &size(data, operand));
+        self.see_row(sum.carried.carry, sum.carried.overflow, sum.row)
+    }
+
+    #[inline(always)]
+    fn lessen_row(self, data: &Row, operand: &Row) -> Worked
+        requires { self.status.dcm ≡ false }
+        ensures { done_of result ≡ lessened Less self (bytes_of data.now) (bytes_of operand.now) }
+    {
+        let difference = subtract(data, &size(data, operand));
+        self.see_row(!difference.carried.carry, difference.carried.overflow, difference.row)
+    }
+}
+
+// The operation byte by byte.
+#[inline(always)]
+fn operate_bytes(op: Operation, flags: Flags, data: &Row, operand: &Row) -> Result<Worked, NotDecimal>
+    ensures { rows_done result ≡ operated op flags (bytes_of data.now) (bytes_of operand.now) }
+{
+    let n = data.len();
+    let mut bytes = data.bytes();
+    let others = operand.bytes();
+    let flags = operate(op, flags, &mut bytes[..n], &others[..operand.len()])?;
+    Ok(Worked {
+        row: Row::new(bytes, n),
+        flags,
+    })
+}
+
+// Works on a row with an operand.
+#[inline(always)]
+#[tactic(auto, using(crate::proofs::Wholes::joined_sized, crate::proofs::Wholes::low_one))]
+pub fn operate_row(op: Operation, flags: Flags, data: &Row, operand: &Row) -> Result<Worked, NotDecimal>
+    ensures { rows_done result ≡ operated op flags (bytes_of data.now) (bytes_of operand.now) }
+{
+    match op {
+        Operation::Load => Ok(flags.see_row(false, false, size(data, operand))),
+        Operation::Test => Ok(flags.see_row(false, false, *data)),
+        Operation::Increment if !flags.status.dcm => Ok(flags.add_row(data, &Row::of_word(1, 1))),
+        Operation::Decrement if !flags.status.dcm => Ok(flags.lessen_row(data, &Row::of_word(1, 1))),
+        Operation::Add if !flags.status.dcm => Ok(flags.add_row(data, operand)),
+        Operation::Compare | Operation::Subtract if !flags.status.dcm => Ok(flags.lessen_row(data, operand)),
+        _ => operate_bytes(op, flags, data, operand),
+    }
+}
