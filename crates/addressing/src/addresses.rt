@@ -13,6 +13,7 @@ use reading::{BusReader, Fault};
 use registers::{Cpu, span};
 
 // The address in the bytes after the code.
+#[inline(always)]
 fn literal_pair(literal: &Row) -> u16
     ensures { result ≡ literal_pair (bytes_of literal.now) }
 {
@@ -20,6 +21,7 @@ fn literal_pair(literal: &Row) -> u16
 }
 
 // How far a stack pointer moves.
+#[inline(always)]
 fn distance(indirect: bool, form: Form, drp: u8) -> u16
     ensures { result ≡ distance_of indirect form drp }
 {
@@ -27,6 +29,7 @@ fn distance(indirect: bool, form: Form, drp: u8) -> u16
 }
 
 // The base address, for an instruction that has these bytes after its code.
+#[inline(always)]
 pub fn base_address(cpu: &Cpu, base: Base, indirect: bool, form: Form, literal: &Row) -> u16
     ensures { result ≡ base_of base indirect form (state_of cpu.now) (bytes_of literal.now) }
 {
@@ -40,6 +43,7 @@ pub fn base_address(cpu: &Cpu, base: Base, indirect: bool, form: Form, literal: 
 }
 
 // Writes the pair that an instruction with this base moves; nothing else changes.
+#[inline(always)]
 pub fn move_pair(cpu: &mut Cpu, base: Base, indirect: bool, form: Form, literal: &Row)
     ensures { state_of cpu.new ≡ with_moved base indirect form (state_of cpu.old) (bytes_of literal.now) }
 {
@@ -56,6 +60,7 @@ pub fn move_pair(cpu: &mut Cpu, base: Base, indirect: bool, form: Form, literal:
 }
 
 // The base itself, or the pair that is found there.
+#[inline(always)]
 pub fn address_of<B: Bus>(reader: &mut BusReader<B>, indirect: bool, at: u16) -> Result<u16, Fault>
     ensures { ReadsBy B.Bus.meaning reader.old (address_tree indirect at) result reader.new }
 {

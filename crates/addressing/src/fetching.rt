@@ -23,6 +23,7 @@ pub struct Fetched {
 
 impl Fetched {
     // How many bytes the instruction has.
+    #[inline(always)]
     pub fn length(&self) -> u8
         ensures { result ≡ length_of (fetched_of self.now) }
     {
@@ -31,6 +32,7 @@ impl Fetched {
 }
 
 // Fetches the bytes after an instruction's code.
+#[inline(always)]
 fn fetch_literal<B: Bus>(
     reader: &mut BusReader<B>,
     cpu: &Cpu,
@@ -47,6 +49,7 @@ fn fetch_literal<B: Bus>(
 }
 
 // Fetches what comes after a code.
+#[inline(always)]
 #[tactic(auto, unfolding(crate::specs::Fetching::coded_tree))]
 fn fetch_coded<B: Bus>(reader: &mut BusReader<B>, cpu: &Cpu, code: u8) -> Result<Fetched, Fault>
     ensures { ReadsBy B.Bus.meaning reader.old (coded_tree code (state_of cpu.now)) (map_ok fetched_of result) reader.new }
@@ -58,6 +61,7 @@ fn fetch_coded<B: Bus>(reader: &mut BusReader<B>, cpu: &Cpu, code: u8) -> Result
 }
 
 // Fetches the instruction at the program counter.
+#[inline(always)]
 pub fn fetch<B: Bus>(reader: &mut BusReader<B>, cpu: &Cpu) -> Result<Fetched, Fault>
     ensures { ReadsBy B.Bus.meaning reader.old (fetch_tree (state_of cpu.now)) (map_ok fetched_of result) reader.new }
 {
@@ -66,6 +70,7 @@ pub fn fetch<B: Bus>(reader: &mut BusReader<B>, cpu: &Cpu) -> Result<Fetched, Fa
 }
 
 // Moves the program counter past an instruction; nothing else changes.
+#[inline(always)]
 pub fn pass(cpu: &mut Cpu, fetched: &Fetched)
     ensures { state_of cpu.new ≡ passed (state_of cpu.old) (fetched_of fetched.now) }
 {

@@ -5,6 +5,7 @@ ghost use Rattle.addressing.specs.Lengths.{base_literals, mode_literals, literal
 use decode::{Base, Form, Instruction, Mode};
 use registers::span;
 
+#[inline(always)]
 fn base_literals(base: Base) -> usize
     ensures { result ≡ base_literals base }
 {
@@ -14,6 +15,7 @@ fn base_literals(base: Base) -> usize
     }
 }
 
+#[inline(always)]
 fn mode_literals(mode: Mode, form: Form, drp: u8) -> usize
     ensures value { result ≡ mode_literals mode form drp }
     ensures few { result ≤ 8 }
@@ -25,6 +27,7 @@ fn mode_literals(mode: Mode, form: Form, drp: u8) -> usize
     }
 }
 
+#[inline(always)]
 pub fn count_literals(instruction: Instruction, drp: u8) -> usize
     ensures value { result ≡ literal_count instruction drp }
     ensures few { result ≤ 8 }

@@ -15,6 +15,7 @@ use reading::{BusReader, Fault};
 use registers::{Cpu, span};
 
 // Reads n bytes from the address on, upward.
+#[inline(always)]
 pub fn read_bytes<B: Bus>(reader: &mut BusReader<B>, address: u16, n: usize) -> Result<Row, Fault>
     requires { n ≤ 8 }
     ensures { ReadsBy B.Bus.meaning reader.old (row_tree n address) (map_ok bytes_of result) reader.new }
@@ -25,6 +26,7 @@ pub fn read_bytes<B: Bus>(reader: &mut BusReader<B>, address: u16, n: usize) -> 
 }
 
 // Reads n bytes of memory, from the address on that the base gives.
+#[inline(always)]
 fn read_memory<B: Bus>(
     reader: &mut BusReader<B>,
     indirect: bool,
@@ -39,6 +41,7 @@ fn read_memory<B: Bus>(
 }
 
 // Reads the operand of an instruction that has these bytes after its code.
+#[inline(always)]
 pub fn read_operand<B: Bus>(
     reader: &mut BusReader<B>,
     cpu: &Cpu,

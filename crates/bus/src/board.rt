@@ -52,16 +52,19 @@ impl Bus for LineBoard {
 
     ghost rules = { λ s. bytes_rules s.base 16 (map trunk_byte s.trunks) };
 
+    #[inline(always)]
     fn read(&self, address: u16) -> Result<u8, BusRefusal> {
         let i = place(self.base, self.trunks.len(), address)?;
         Ok(u8::from(self.trunks[i]))
     }
 
+    #[inline(always)]
     fn inquire(&self, address: u16) -> Result<(), BusRefusal> {
         place(self.base, self.trunks.len(), address)?;
         Ok(())
     }
 
+    #[inline(always)]
     fn store(&mut self, address: u16, byte: u8) -> Result<(), BusRefusal> {
         let i = place(self.base, self.trunks.len(), address)?;
         self.trunks[i] = Trunk::from(byte);

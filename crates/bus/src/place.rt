@@ -4,6 +4,7 @@ ghost use Rattle.bus.specs.Kinds.{place_of};
 
 use crate::refusal::{BusRefusal, Cause};
 
+#[inline(always)]
 pub fn place(base: u16, size: usize, address: u16) -> Result<usize, BusRefusal>
     ensures { result ≡ place_of base size address }
 {

@@ -43,16 +43,19 @@ impl Bus for Ram {
 
     ghost rules = { λ s. ram_rules s.base s.bytes.items };
 
+    #[inline(always)]
     fn read(&self, address: u16) -> Result<u8, BusRefusal> {
         let i = place(self.base, self.bytes.len(), address)?;
         Ok(self.bytes[i])
     }
 
+    #[inline(always)]
     fn inquire(&self, address: u16) -> Result<(), BusRefusal> {
         place(self.base, self.bytes.len(), address)?;
         Ok(())
     }
 
+    #[inline(always)]
     fn store(&mut self, address: u16, byte: u8) -> Result<(), BusRefusal> {
         let i = place(self.base, self.bytes.len(), address)?;
         self.bytes[i] = byte;

@@ -24,16 +24,19 @@ impl<'a> Bus for Rom<'a> {
     ghost rules = { λ s. rom_rules s.base s.bytes.now };
 
     // As in RAM: what the two share is `place`.
+    #[inline(always)]
     fn read(&self, address: u16) -> Result<u8, BusRefusal> {
         let i = place(self.base, self.bytes.len(), address)?;
         Ok(self.bytes[i])
     }
 
+    #[inline(always)]
     fn inquire(&self, address: u16) -> Result<(), BusRefusal> {
         place(self.base, self.bytes.len(), address)?;
         Err(BusRefusal::here(Cause::RomStore))
     }
 
+    #[inline(always)]
     fn store(&mut self, address: u16, _byte: u8) -> Result<(), BusRefusal> {
         self.inquire(address)
     }

@@ -56,6 +56,7 @@ fn link_bytes<C: Counting>(op: Link, a: u8, b: u8, carry: bool) -> (u8, bool)
 }
 
 // The byte at a place, and 0 past the end.
+#[inline(always)]
 pub fn byte_at(row: &[u8], i: usize) -> u8
     ensures { result ≡ slice_index row.now i }
 {

@@ -14,6 +14,7 @@ pub use registers::Form;
 // The parts of a code become enums in these functions alone: a single bit comes as a bool, a field of more bits as a number,
 // and for the form, which is the lowest bit, the code itself. They are no `From` impls of the enums, since only a part of a
 // code stands for one.
+#[inline(always)]
 fn form(code: u8) -> Form
     ensures { result ≡ form_of code }
 {
@@ -24,6 +25,7 @@ fn form(code: u8) -> Form
     }
 }
 
+#[inline(always)]
 fn source(n: u8) -> Source
     ensures { result ≡ source_of n }
 {
@@ -33,6 +35,7 @@ fn source(n: u8) -> Source
     }
 }
 
+#[inline(always)]
 fn shift(n: u8) -> Operation
     ensures { result ≡ shift_of n }
 {
@@ -44,6 +47,7 @@ fn shift(n: u8) -> Operation
     }
 }
 
+#[inline(always)]
 fn count(n: u8) -> Operation
     ensures { result ≡ count_of n }
 {
@@ -55,6 +59,7 @@ fn count(n: u8) -> Operation
     }
 }
 
+#[inline(always)]
 fn logic(n: u8, form: Form) -> Instruction
     ensures { result ≡ logic_of n form }
 {
@@ -67,6 +72,7 @@ fn logic(n: u8, form: Form) -> Instruction
     Instruction::Compute(operation, operand, form)
 }
 
+#[inline(always)]
 fn control(n: u8) -> Control
     ensures { result ≡ control_of n }
 {
@@ -82,6 +88,7 @@ fn control(n: u8) -> Control
     }
 }
 
+#[inline(always)]
 fn direct(base: Base) -> Mode
     ensures { result ≡ direct base }
 {
@@ -91,6 +98,7 @@ fn direct(base: Base) -> Mode
     }
 }
 
+#[inline(always)]
 fn indirect(base: Base) -> Mode
     ensures { result ≡ indirect base }
 {
@@ -101,6 +109,7 @@ fn indirect(base: Base) -> Mode
 }
 
 // The eight operands of LD and ST.
+#[inline(always)]
 fn mode(n: u8) -> Mode
     ensures { result ≡ mode_of n }
 {
@@ -117,6 +126,7 @@ fn mode(n: u8) -> Mode
 }
 
 // The four operands of CM, AD, SB and AN.
+#[inline(always)]
 fn sum_mode(n: u8) -> Mode
     ensures { result ≡ sum_mode_of n }
 {
@@ -129,6 +139,7 @@ fn sum_mode(n: u8) -> Mode
 }
 
 // The eight operands of PO and PU.
+#[inline(always)]
 fn stack(down: bool, indirect: bool) -> Mode
     ensures { result ≡ stack_of down indirect }
 {
@@ -137,6 +148,7 @@ fn stack(down: bool, indirect: bool) -> Mode
 }
 
 // LD and PO load; ST and PU store.
+#[inline(always)]
 fn transfer(loads: bool, mode: Mode, form: Form) -> Instruction
     ensures { result ≡ transfer_of loads mode form }
 {
@@ -148,6 +160,7 @@ fn transfer(loads: bool, mode: Mode, form: Form) -> Instruction
 }
 
 // Codes C0 to DF, by row and low three bits.
+#[inline(always)]
 fn sum(row: u8, low: u8) -> Option<Instruction>
     ensures { result ≡ sum_of row low }
 {
@@ -163,6 +176,7 @@ fn sum(row: u8, low: u8) -> Option<Instruction>
     }
 }
 
+#[inline(always)]
 fn condition(n: u8) -> Condition
     ensures { result ≡ condition_of n }
 {
@@ -187,6 +201,7 @@ fn condition(n: u8) -> Condition
 }
 
 // The instruction of a code, or none where the code is illegal.
+#[inline(always)]
 pub fn decode(code: u8) -> Option<Instruction>
     ensures { result ≡ decoded code }
 {

@@ -19,6 +19,7 @@ use registers::Cpu;
 
 // Jumps to a subroutine: the program counter is stored at the return pointer, which is raised by 2. The form says how far a
 // stack pointer moves, and no subroutine is called through one.
+#[inline(always)]
 pub fn call<B: Bus>(
     reader: &BusReader<B>,
     cpu: &mut Cpu,
@@ -43,6 +44,7 @@ pub fn call<B: Bus>(
 }
 
 // Returns from a subroutine.
+#[inline(always)]
 pub fn return_back<B: Bus>(reader: &mut BusReader<B>, cpu: &mut Cpu) -> Result<Executed, Fault>
     ensures outcome { ReadsBy B.Bus.meaning reader.old (control_tree ReturnCode (state_of cpu.old)) (map_ok (plan_of (state_of cpu.new)) result) reader.new }
     ensures refused { state_of cpu.new ≡ if_ok result (state_of cpu.new) (state_of cpu.old) }

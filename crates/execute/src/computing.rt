@@ -18,6 +18,7 @@ use reading::{BusReader, Fault};
 use registers::Cpu;
 
 // A test and a comparison leave only status and E.
+#[inline(always)]
 pub fn keeps(op: Operation) -> bool
     ensures { result ≡ keeps_row op }
 {
@@ -25,6 +26,7 @@ pub fn keeps(op: Operation) -> bool
 }
 
 // Moves the pair that the mode moves.
+#[inline(always)]
 pub fn move_by(cpu: &mut Cpu, mode: Option<Mode>, form: Form, literal: &Row)
     ensures { state_of cpu.new ≡ moved_by mode form (state_of cpu.old) (bytes_of literal.now) }
 {
@@ -34,6 +36,7 @@ pub fn move_by(cpu: &mut Cpu, mode: Option<Mode>, form: Form, literal: &Row)
 }
 
 // Writes what an operation left of the data.
+#[inline(always)]
 fn write_done(cpu: &mut Cpu, op: Operation, row: &Row, flags: Flags)
     ensures { state_of cpu.new ≡ with_done op (state_of cpu.old) (done (bytes_of row.now) flags) }
 {
@@ -45,6 +48,7 @@ fn write_done(cpu: &mut Cpu, op: Operation, row: &Row, flags: Flags)
 }
 
 // Works on the data with the operand that was read, and writes what comes of them over the pair that the mode moves.
+#[inline(always)]
 fn compute_with(
     cpu: &mut Cpu,
     op: Operation,
@@ -68,6 +72,7 @@ fn compute_with(
 }
 
 // Reads the operand, works on the data with it, and writes what comes of them.
+#[inline(always)]
 pub fn compute<B: Bus>(
     reader: &mut BusReader<B>,
     cpu: &mut Cpu,

@@ -16,6 +16,7 @@ use reading::{BusReader, Fault};
 use registers::Cpu;
 
 // Stores the pointers and the status at the return pointer, which is raised by 3.
+#[inline(always)]
 fn save_status<B: Bus>(reader: &BusReader<B>, cpu: &mut Cpu) -> Result<Executed, Fault>
     ensures outcome { ReadsBy B.Bus.meaning reader.now (control_tree SaveCode (state_of cpu.old)) (map_ok (plan_of (state_of cpu.new)) result) reader.now }
     ensures refused { state_of cpu.new ≡ if_ok result (state_of cpu.new) (state_of cpu.old) }
@@ -32,6 +33,7 @@ fn save_status<B: Bus>(reader: &BusReader<B>, cpu: &mut Cpu) -> Result<Executed,
 }
 
 // Takes back the pointers and the status from below the return pointer, which is lowered by 3.
+#[inline(always)]
 fn restore_status<B: Bus>(reader: &mut BusReader<B>, cpu: &mut Cpu) -> Result<Executed, Fault>
     ensures outcome { ReadsBy B.Bus.meaning reader.old (control_tree RestoreCode (state_of cpu.old)) (map_ok (plan_of (state_of cpu.new)) result) reader.new }
     ensures refused { state_of cpu.new ≡ if_ok result (state_of cpu.new) (state_of cpu.old) }
@@ -45,6 +47,7 @@ fn restore_status<B: Bus>(reader: &mut BusReader<B>, cpu: &mut Cpu) -> Result<Ex
 }
 
 // BIN, BCD, SAD, DCE, ICE, CLE, RTN, PAD.
+#[inline(always)]
 pub fn control<B: Bus>(
     reader: &mut BusReader<B>,
     cpu: &mut Cpu,

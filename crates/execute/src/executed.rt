@@ -17,6 +17,7 @@ pub struct Executed {
 
 impl Executed {
     // Nothing is to be stored.
+    #[inline(always)]
     pub fn still(length: u8) -> Executed
         ensures at { result.at ≡ 0 }
         ensures bytes { bytes_of result.bytes ≡ [] }

@@ -11,6 +11,7 @@ use decode::Condition;
 use registers::{Cpu, Status};
 
 // Whether a jump is taken.
+#[inline(always)]
 fn is_met(condition: Condition, status: Status, e: u8) -> bool
     ensures { result ≡ met condition status e }
 {
@@ -35,6 +36,7 @@ fn is_met(condition: Condition, status: Status, e: u8) -> bool
 }
 
 // Where a jump goes from the address after its offset, which is a signed byte.
+#[inline(always)]
 fn target(pc: u16, offset: u8) -> u16
     ensures { result ≡ jumped pc offset }
 {
@@ -42,6 +44,7 @@ fn target(pc: u16, offset: u8) -> u16
 }
 
 // Jumps by the byte after the code, if the condition is met; nothing but the program counter changes.
+#[inline(always)]
 pub fn jump(cpu: &mut Cpu, condition: Condition, literal: &Row)
     ensures { state_of cpu.new ≡ jumped_to condition (state_of cpu.old) (bytes_of literal.now) }
 {

@@ -24,6 +24,7 @@ use reading::{BusReader, Fault};
 use registers::Cpu;
 
 // What ARP or DRP is set to.
+#[inline(always)]
 fn pointed(cpu: &Cpu, source: Source) -> u8
     ensures { result ≡ pointed_by source (state_of cpu.now) }
 {
@@ -34,6 +35,7 @@ fn pointed(cpu: &Cpu, source: Source) -> u8
 }
 
 // Carries out an instruction that the program counter has passed; the bytes after its code stand at `after`.
+#[inline(always)]
 fn perform<B: Bus>(
     reader: &mut BusReader<B>,
     cpu: &mut Cpu,
@@ -65,6 +67,7 @@ fn perform<B: Bus>(
 }
 
 // Passes the fetched instruction and carries it out. A refusal leaves it passed.
+#[inline(always)]
 fn pass_and_perform<B: Bus>(
     reader: &mut BusReader<B>,
     cpu: &mut Cpu,
@@ -80,6 +83,7 @@ fn pass_and_perform<B: Bus>(
 
 // Fetches the instruction at the program counter and carries it out, up to its stores, which are all inquired about. A refusal
 // changes nothing, since it puts the program counter back.
+#[inline(always)]
 #[tactic(auto, using(crate::proofs::Putting::put_back))]
 pub fn carry_out<B: Bus>(reader: &mut BusReader<B>, cpu: &mut Cpu) -> Result<Executed, Fault>
     ensures outcome { ReadsBy B.Bus.meaning reader.old (plan_tree (state_of cpu.old)) (map_ok (plan_of (state_of cpu.new)) result) reader.new }

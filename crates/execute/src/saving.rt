@@ -9,6 +9,7 @@ use byte_rows::Row;
 use registers::{Cpu, Status};
 
 // Six bits of a pointer, and two of the status above them.
+#[inline(always)]
 fn pointer_byte(pointer: u8, low: bool, high: bool) -> u8
     requires { pointer ≤ 63 }
     ensures { result ≡ pointer + 64 * bit_of low + 128 * bit_of high }
@@ -17,6 +18,7 @@ fn pointer_byte(pointer: u8, low: bool, high: bool) -> u8
 }
 
 // Four bits of the status.
+#[inline(always)]
 fn status_nibble(a: bool, b: bool, c: bool, d: bool) -> u8
     ensures { result ≡ bit_of a + 2 * bit_of b + 4 * bit_of c + 8 * bit_of d }
 {
@@ -24,6 +26,7 @@ fn status_nibble(a: bool, b: bool, c: bool, d: bool) -> u8
 }
 
 // What SAD stores.
+#[inline(always)]
 pub fn saved_bytes(cpu: &Cpu) -> Row
     ensures { bytes_of result ≡ saved (state_of cpu.now) }
 {
@@ -34,6 +37,7 @@ pub fn saved_bytes(cpu: &Cpu) -> Row
     Row::new([first, second, third, 0, 0, 0, 0, 0], 3)
 }
 
+#[inline(always)]
 fn status_of(first: u8, second: u8, third: u8) -> Status
     ensures { result ≡ restored_status first second third }
 {
@@ -50,6 +54,7 @@ fn status_of(first: u8, second: u8, third: u8) -> Status
 }
 
 // Takes back what SAD stored; registers and E stay.
+#[inline(always)]
 pub fn restore(cpu: &mut Cpu, bytes: [u8; 3])
     ensures { state_of cpu.new ≡ restored (state_of cpu.old) bytes }
 {

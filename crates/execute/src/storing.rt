@@ -19,6 +19,7 @@ use reading::{BusReader, Fault};
 use registers::Cpu;
 
 // Sees the data, and clears CY and OVF.
+#[inline(always)]
 fn see_data(cpu: &mut Cpu, row: &Row)
     ensures { state_of cpu.new ≡ with_seen (state_of cpu.old) (bytes_of row.now) }
 {
@@ -26,6 +27,7 @@ fn see_data(cpu: &mut Cpu, row: &Row)
 }
 
 // Stores the data to an address that the mode gave.
+#[inline(always)]
 fn store_data<B: Bus>(
     reader: &BusReader<B>,
     cpu: &mut Cpu,
@@ -49,6 +51,7 @@ fn store_data<B: Bus>(
 }
 
 // Stores the data to the registers from ARP on.
+#[inline(always)]
 fn store_registers(cpu: &mut Cpu, form: Form, literal: &Row) -> Executed
     ensures { plan_of (state_of cpu.new) result ≡ stored_registers form (state_of cpu.old) (bytes_of literal.now) }
 {
@@ -59,6 +62,7 @@ fn store_registers(cpu: &mut Cpu, form: Form, literal: &Row) -> Executed
 }
 
 // Stores the data where the mode says.
+#[inline(always)]
 pub fn store<B: Bus>(
     reader: &mut BusReader<B>,
     cpu: &mut Cpu,

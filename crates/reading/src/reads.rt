@@ -8,6 +8,7 @@ use bus::Bus;
 use counting::byte_at;
 
 // Whether the sheet has the stain of an address; a sheet that is too short has none past its end.
+#[inline(always)]
 pub fn is_stained(sheet: &[u8], address: u16) -> bool
     ensures { result ≡ stained sheet.now address }
 {
@@ -25,6 +26,7 @@ pub struct BusReader<'a, B> {
 
 impl<'a, B: Bus> BusReader<'a, B> {
     // Nothing is told yet.
+    #[inline(always)]
     pub fn new(bus: &'a B, sheet: &'a [u8]) -> BusReader<'a, B>
         ensures bus { result.bus.now ≡ bus.now }
         ensures sheet { result.sheet.now ≡ sheet.now }
@@ -38,6 +40,7 @@ impl<'a, B: Bus> BusReader<'a, B> {
     }
 
     // Reads one byte, and notes the address if it is the first that is stained.
+    #[inline(always)]
     pub fn byte(&mut self, address: u16) -> Result<u8, Fault>
         ensures { ReadsBy B.Bus.meaning self.old (byte_tree address) result self.new }
     {
@@ -50,6 +53,7 @@ impl<'a, B: Bus> BusReader<'a, B> {
     }
 
     // Reads a pair, low byte first. The address after 65,535 is 0.
+    #[inline(always)]
     pub fn pair(&mut self, address: u16) -> Result<u16, Fault>
         ensures { ReadsBy B.Bus.meaning self.old (pair_tree address) result self.new }
     {
@@ -59,6 +63,7 @@ impl<'a, B: Bus> BusReader<'a, B> {
     }
 
     // Fills the row with the bytes from the address on, upward; here too 0 comes after 65,535.
+    #[inline(always)]
     #[tactic(auto, using(crate::proofs::Filling::filling_begins))]
     pub fn row(&mut self, address: u16, row: &mut [u8]) -> Result<(), Fault>
         ensures read { ReadsBy B.Bus.meaning self.old (row_tree (length row.old) address) (row_with row.new result) self.new }
@@ -71,6 +76,7 @@ impl<'a, B: Bus> BusReader<'a, B> {
     }
 
     // Inquires about stores to n addresses upward; the first that would not be taken refuses.
+    #[inline(always)]
     #[tactic(auto, using(crate::proofs::Laws::store_more, crate::proofs::Laws::inquiring))]
     pub fn inquire(&self, address: u16, n: usize) -> Result<(), Fault>
         ensures { ReadsBy B.Bus.meaning self.now (stores_tree n address) result self.now }

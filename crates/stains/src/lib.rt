@@ -9,6 +9,7 @@ ghost use Rattle.stains.specs.Stores.{upward, taken, stored_all, marked_all};
 use bus::Bus;
 
 // Sets or clears the stain of an address; a sheet that is too short keeps none past its end.
+#[inline(always)]
 pub fn mark(sheet: &mut [u8], stain: bool, address: u16)
     ensures { sheet.new ≡ marked stain address sheet.old }
 {
@@ -25,6 +26,7 @@ pub fn mark(sheet: &mut [u8], stain: bool, address: u16)
 
 // Stores the bytes upward from the address, and sets or clears the stain of each byte's address. A store that the bus
 // refuses changes neither; callers that inquired first know that there is none.
+#[inline(always)]
 pub fn make_stores<B: Bus>(bus: &mut B, sheet: &mut [u8], stain: bool, address: u16, bytes: &[u8])
     ensures bus { B.meaning bus.new ≡ stored_all (taken (B.meaning bus.old).takes (upward address bytes.now)) (B.meaning bus.old) }
     ensures sheet { sheet.new ≡ marked_all stain (taken (B.meaning bus.old).takes (upward address bytes.now)) sheet.old }

@@ -36,13 +36,14 @@ impl Live {
         let mut reader = BusReader::new(bus, sheet);
         let mut bytes = [0; 8];
         reader.row(vector, &mut bytes[..2])?;
-        let jump = call(
-            &reader,
-            &mut self.cpu,
-            Base::Literal,
-            &Row::new(bytes, 2),
-        )?;
-        make_stores(bus, sheet, true, jump.at, &jump.bytes.bytes()[..jump.bytes.len()]);
+        let jump = call(&reader, &mut self.cpu, Base::Literal, &Row::new(bytes, 2))?;
+        make_stores(
+            bus,
+            sheet,
+            true,
+            jump.at,
+            &jump.bytes.bytes()[..jump.bytes.len()],
+        );
         self.visit = Some(before);
         Ok(())
     }

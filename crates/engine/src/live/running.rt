@@ -18,6 +18,7 @@ pub struct Report {
 }
 
 // Why a run stops after a step, if it does.
+#[inline(always)]
 fn letter_of(answer: &Result<Answer, Refusal>) -> Letter
     ensures { result ≡ step_letter answer.now }
 {
@@ -33,6 +34,7 @@ fn letter_of(answer: &Result<Answer, Refusal>) -> Letter
 
 impl Live {
     // Steps until n are done, one is refused, a stain is told or a visit ends marred; the sheet has its size.
+    #[inline(always)]
     #[tactic(auto, using(std::proofs::lemmas::Grind::common_steps, noninterference::proofs::Running::run_stops, noninterference::proofs::Running::run_on, crate::proofs::Letters::stops_unless_done, crate::proofs::Letters::counted_is))]
     fn run_steps<B: Bus>(&mut self, bus: &mut B, sheet: &mut [u8], n: u16) -> Report
         ensures report { result ≡ reported (run_of machine n (in_service self.old sheet.old (B.Bus.meaning bus.old))) }

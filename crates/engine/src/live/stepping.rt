@@ -14,6 +14,7 @@ use stains::make_stores;
 
 impl Live {
     // How the visit ended, if one is open and this was the RTN that brought the return pointer back; the copy goes then.
+    #[inline(always)]
     fn close_visit(&mut self, returns: bool) -> Option<VisitEnd>
         ensures ended { result ≡ end_of (visit_state self.old) returns (live_state self.old) }
         ensures visit { visit_state self.new ≡ visit_after (visit_state self.old) returns (live_state self.old) }
@@ -32,6 +33,7 @@ impl Live {
     }
 
     // What a step tells of the first stained address that it read: within a visit nothing.
+    #[inline(always)]
     fn tells(&self, stained: Option<u16>) -> Option<u16>
         ensures { result ≡ told_by (visit_state self.now) stained }
     {
@@ -42,6 +44,7 @@ impl Live {
     }
 
     // A step, whatever the size of the sheet.
+    #[inline(always)]
     pub(crate) fn advance<B: Bus>(
         &mut self,
         bus: &mut B,
@@ -58,7 +61,13 @@ impl Live {
         match carried {
             Ok(executed) => {
                 let stain = self.visit.is_some();
-                make_stores(bus, sheet, stain, executed.at, &executed.bytes.bytes()[..executed.bytes.len()]);
+                make_stores(
+                    bus,
+                    sheet,
+                    stain,
+                    executed.at,
+                    &executed.bytes.bytes()[..executed.bytes.len()],
+                );
                 Ok(Answer {
                     place,
                     length: executed.length,
