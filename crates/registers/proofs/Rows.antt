@@ -19,10 +19,13 @@ pub row_in_line : (rs : List ℕ) (k n : ℕ) → k + n ≤ 64 → length rs ≡
 row_in_line rs k zero h e = grind arith
 row_in_line rs k (suc n) h e = grind (arith, drop-cons rs k 0 (omega arith), row_in_line rs (k + 1) n (omega arith) e)
 
-pub row_part : (rs : List ℕ) (k n m : ℕ) → n ≤ m → take n (row_at rs k m) ≡ row_at rs k n
+row_part : (rs : List ℕ) (k n m : ℕ) → n ≤ m → take n (row_at rs k m) ≡ row_at rs k n
 row_part rs k zero m h = grind arith
 row_part rs k (suc n) zero h = absurd (omega arith)
 row_part rs k (suc n) (suc m) h = ap (λ l. register_at rs k ∷ l) (row_part rs (k + 1) n m (omega arith))
+
+pub row_first : (rs : List ℕ) (k n : ℕ) (bytes : List ℕ) → bytes ≡ row_at rs k 8 → n ≤ 8 → take n bytes ≡ row_at rs k n
+row_first rs k n bytes e h = ap (take n) e ∙ row_part rs k n 8 h
 
 pub with_in_line : (rs : List ℕ) (k : ℕ) (row : List ℕ) → k + length row ≤ 64 → registers_with rs k row ≡ over rs k row
 unfolding over

@@ -76,7 +76,6 @@ impl Cpu {
 
     // The eight registers from k on. Where they lie in line they are copied at once.
     #[inline(always)]
-    #[tactic(auto, using(crate::proofs::Rows::row_in_line))]
     fn eight(&self, k: u8) -> [u8; 8]
         ensures { result ≡ row_at self.now.registers k 8 }
     {
@@ -91,7 +90,7 @@ impl Cpu {
 
     // The registers from k on that a form works on.
     #[inline(always)]
-    #[tactic(auto, using(crate::proofs::Rows::row_part))]
+    #[tactic(auto, using(crate::proofs::Rows::row_first))]
     pub fn row(&self, k: u8, form: Form) -> Row
         ensures { bytes_of result ≡ row_at self.now.registers k (span_of form self.now.drp) }
     {
@@ -100,13 +99,12 @@ impl Cpu {
 
     // Writes the row to the registers from k on; nothing else changes. One byte, and eight that lie in line, are written at once.
     #[inline(always)]
-    #[tactic(auto, using(crate::proofs::Rows::with_in_line))]
     pub fn set_row(&mut self, k: u8, row: Row)
         ensures { state_of self.new ≡ with_row (state_of self.old) k (bytes_of row) }
     {
         let bytes = row.bytes();
         match row.len() {
-            1 => self.registers[usize::from(k % 64)] = bytes[0],
+            1 => self.registers[usize::from(k) % 64] = bytes[0],
             8 if k <= 56 => {
                 let _ = overwrite(&mut self.registers, usize::from(k), &bytes);
             }
