@@ -20,9 +20,18 @@ pub fn read_bytes<B: Bus>(reader: &mut BusReader<B>, address: u16, n: usize) -> 
     requires { n ≤ 8 }
     ensures { ReadsBy B.Bus.meaning reader.old (row_tree n address) (map_ok bytes_of result) reader.new }
 {
-    let mut bytes = [0; 8];
-    reader.row(address, &mut bytes[..n])?;
-    Ok(Row::new(bytes, n))
+    match n {
+        0 => Ok(Row::empty()),
+        1 => {
+            let byte = reader.byte(address)?;
+            Ok(Row::of_word(u64::from(byte), 1))
+        }
+        _ => {
+            let mut bytes = [0; 8];
+            reader.row(address, &mut bytes[..n])?;
+            Ok(Row::new(bytes, n))
+        }
+    }
 }
 
 // Reads n bytes of memory, from the address on that the base gives.

@@ -74,27 +74,39 @@ impl Cpu {
         }
     }
 
-    // The eight registers from k on. Where they lie in line they are copied at once.
+    // Eight registers that lie in line, copied at once.
     #[inline(always)]
-    fn eight(&self, k: u8) -> [u8; 8]
+    fn in_line(&self, k: u8) -> [u8; 8]
+        requires { k ≤ 56 }
         ensures { result ≡ row_at self.now.registers k 8 }
     {
         let mut bytes = [0; 8];
-        if k <= 56 {
-            bytes.copy_from_slice(&self.registers[usize::from(k)..usize::from(k) + 8]);
-        } else {
-            self.read_row(k, &mut bytes);
-        }
+        bytes.copy_from_slice(&self.registers[usize::from(k)..usize::from(k) + 8]);
         bytes
     }
 
-    // The registers from k on that a form works on.
+    // Eight registers from k on, past the last to the first.
+    #[inline(always)]
+    fn around(&self, k: u8) -> [u8; 8]
+        ensures { result ≡ row_at self.now.registers k 8 }
+    {
+        let mut bytes = [0; 8];
+        self.read_row(k, &mut bytes);
+        bytes
+    }
+
+    // The registers from k on that a form works on. The row is made in each case apart, so that one in line is a single load.
     #[inline(always)]
     #[tactic(auto, using(crate::proofs::Rows::row_first))]
     pub fn row(&self, k: u8, form: Form) -> Row
         ensures { bytes_of result ≡ row_at self.now.registers k (span_of form self.now.drp) }
     {
-        Row::new(self.eight(k), span(form, self.drp))
+        let n = span(form, self.drp);
+        if k <= 56 {
+            Row::new(self.in_line(k), n)
+        } else {
+            Row::new(self.around(k), n)
+        }
     }
 
     // Writes the row to the registers from k on; nothing else changes. One byte, and eight that lie in line, are written at once.
