@@ -181,7 +181,3 @@ told_sized l f on xs ys =
 pub joined_sized : (xs ys : List ℕ) → joined_row Replace xs ys ≡ sized (length xs) ys
 joined_sized [] ys = refl
 joined_sized (x ∷ xs) ys = ap (λ l. first ys ∷ l) (joined_sized xs (others ys))
-
-pub low_one : low_bytes (min 1 8) 1 ≡ 1 ∷ []
-unfolding low_bytes
-low_one = refl

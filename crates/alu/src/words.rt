@@ -145,7 +145,7 @@ fn operate_bytes(op: Operation, flags: Flags, data: &Row, operand: &Row) -> Resu
 
 // Works on a row with an operand.
 #[inline(always)]
-#[tactic(auto, using(crate::proofs::Wholes::joined_sized, crate::proofs::Wholes::low_one))]
+#[tactic(auto, using(crate::proofs::Wholes::joined_sized, byte_rows::proofs::Lows::one_low))]
 pub fn operate_row(op: Operation, flags: Flags, data: &Row, operand: &Row) -> Result<Worked, NotDecimal>
     ensures { rows_done result ≡ operated op flags (bytes_of data.now) (bytes_of operand.now) }
 {

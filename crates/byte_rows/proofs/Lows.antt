@@ -61,3 +61,7 @@ unfolding low_bytes
 zero_low zero zero h = refl
 zero_low zero (suc w) h = absurd (omega arith)
 zero_low (suc n) w h = ap (λ r. (w % 256 == 0) && r) (zero_low n (w / 256) (rest_below n w h)) ∙ grind (arith, nat_tests)
+
+pub one_low : (b : ℕ) → b < 256 → low_bytes (min 1 8) b ≡ b ∷ []
+unfolding low_bytes
+one_low b h = grind arith
