@@ -51,11 +51,11 @@ pub fn see_row(status: Status, cy: bool, ovf: bool, row: &Row) -> Status
 
 // The operand with as many bytes as the data has.
 #[inline(always)]
-fn size(data: &Row, operand: &Row) -> Row
-    ensures len { result.len ≡ data.now.len }
-    ensures bytes { bytes_of result ≡ sized (length (bytes_of data.now)) (bytes_of operand.now) }
+fn size(row: &Row, operand: &Row) -> Row
+    ensures len { result.len ≡ row.now.len }
+    ensures bytes { bytes_of result ≡ sized (length (bytes_of row.now)) (bytes_of operand.now) }
 {
-    Row::of_word(operand.word, data.len())
+    Row::of_word(operand.word, row.len())
 }
 
 // A sum in binary, of rows of one length.
@@ -71,7 +71,12 @@ fn add(a: &Row, b: &Row) -> Combined
         row,
         carried: Carried {
             carry: row.word < a.word,
-            overflow: overflows(Link::Add, a.last() >= 128, b.last() >= 128, row.last() >= 128),
+            overflow: overflows(
+                Link::Add,
+                a.last() >= 128,
+                b.last() >= 128,
+                row.last() >= 128,
+            ),
         },
     }
 }
@@ -89,7 +94,12 @@ fn subtract(a: &Row, b: &Row) -> Combined
         row,
         carried: Carried {
             carry: a.word < b.word,
-            overflow: overflows(Link::Subtract, a.last() >= 128, b.last() >= 128, row.last() >= 128),
+            overflow: overflows(
+                Link::Subtract,
+                a.last() >= 128,
+                b.last() >= 128,
+                row.last() >= 128,
+            ),
         },
     }
 }
@@ -110,31 +120,40 @@ impl Flags {
     }
 
     #[inline(always)]
-    fn add_row(self, data: &Row, operand: &Row) -> Worked
+    fn add_row(self, row: &Row, operand: &Row) -> Worked
         requires { self.status.dcm ≡ false }
-        ensures { done_of result ≡ summed self (bytes_of data.now) (bytes_of operand.now) }
+        ensures { done_of result ≡ summed self (bytes_of row.now) (bytes_of operand.now) }
     {
-        let sum = add(data, &size(data, operand));
+        let sum = add(row, &size(row, operand));
         self.see_row(sum.carried.carry, sum.carried.overflow, sum.row)
     }
 
     #[inline(always)]
-    fn lessen_row(self, data: &Row, operand: &Row) -> Worked
+    fn lessen_row(self, row: &Row, operand: &Row) -> Worked
         requires { self.status.dcm ≡ false }
-        ensures { done_of result ≡ lessened Less self (bytes_of data.now) (bytes_of operand.now) }
+        ensures { done_of result ≡ lessened Less self (bytes_of row.now) (bytes_of operand.now) }
     {
-        let difference = subtract(data, &size(data, operand));
-        self.see_row(!difference.carried.carry, difference.carried.overflow, difference.row)
+        let difference = subtract(row, &size(row, operand));
+        self.see_row(
+            !difference.carried.carry,
+            difference.carried.overflow,
+            difference.row,
+        )
     }
 }
 
 // The operation byte by byte.
 #[inline(always)]
-fn operate_bytes(op: Operation, flags: Flags, data: &Row, operand: &Row) -> Result<Worked, NotDecimal>
-    ensures { rows_done result ≡ operated op flags (bytes_of data.now) (bytes_of operand.now) }
+fn operate_bytes(
+    op: Operation,
+    flags: Flags,
+    row: &Row,
+    operand: &Row,
+) -> Result<Worked, NotDecimal>
+    ensures { rows_done result ≡ operated op flags (bytes_of row.now) (bytes_of operand.now) }
 {
-    let n = data.len();
-    let mut bytes = data.bytes();
+    let n = row.len();
+    let mut bytes = row.bytes();
     let others = operand.bytes();
     let flags = operate(op, flags, &mut bytes[..n], &others[..operand.len()])?;
     Ok(Worked {
@@ -146,16 +165,23 @@ fn operate_bytes(op: Operation, flags: Flags, data: &Row, operand: &Row) -> Resu
 // Works on a row with an operand.
 #[inline(always)]
 #[tactic(auto, using(crate::proofs::Wholes::joined_sized, byte_rows::proofs::Lows::one_low))]
-pub fn operate_row(op: Operation, flags: Flags, data: &Row, operand: &Row) -> Result<Worked, NotDecimal>
-    ensures { rows_done result ≡ operated op flags (bytes_of data.now) (bytes_of operand.now) }
+pub fn operate_row(
+    op: Operation,
+    flags: Flags,
+    row: &Row,
+    operand: &Row,
+) -> Result<Worked, NotDecimal>
+    ensures { rows_done result ≡ operated op flags (bytes_of row.now) (bytes_of operand.now) }
 {
     match op {
-        Operation::Load => Ok(flags.see_row(false, false, size(data, operand))),
-        Operation::Test => Ok(flags.see_row(false, false, *data)),
-        Operation::Increment if !flags.status.dcm => Ok(flags.add_row(data, &Row::of_word(1, 1))),
-        Operation::Decrement if !flags.status.dcm => Ok(flags.lessen_row(data, &Row::of_word(1, 1))),
-        Operation::Add if !flags.status.dcm => Ok(flags.add_row(data, operand)),
-        Operation::Compare | Operation::Subtract if !flags.status.dcm => Ok(flags.lessen_row(data, operand)),
-        _ => operate_bytes(op, flags, data, operand),
+        Operation::Load => Ok(flags.see_row(false, false, size(row, operand))),
+        Operation::Test => Ok(flags.see_row(false, false, *row)),
+        Operation::Increment if !flags.status.dcm => Ok(flags.add_row(row, &Row::of_word(1, 1))),
+        Operation::Decrement if !flags.status.dcm => Ok(flags.lessen_row(row, &Row::of_word(1, 1))),
+        Operation::Add if !flags.status.dcm => Ok(flags.add_row(row, operand)),
+        Operation::Compare | Operation::Subtract if !flags.status.dcm => Ok(flags.lessen_row(
+            row, operand,
+        )),
+        _ => operate_bytes(op, flags, row, operand),
     }
 }

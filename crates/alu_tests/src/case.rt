@@ -1,7 +1,8 @@
 // A random row of one to eight bytes, and the numbers that it stands for, in a u128.
 ghost use Rattle.std.specs.Prelude.{◌≤◌};
 
-use alu::Flags;
+use alu::{Flags, NotDecimal, Operation, Worked, operate_row};
+use byte_rows::Row;
 use registers::Status;
 
 // The mode that a row counts in.
@@ -115,6 +116,12 @@ impl Case {
             },
             e: self.e,
         }
+    }
+
+    // The same on rows as words.
+    pub fn operate_row(&self, op: Operation) -> Result<Worked, NotDecimal> {
+        let row = Row::new(self.data, self.span);
+        operate_row(op, self.flags(), &row, &Row::new(self.operand, self.span))
     }
 
     pub fn bits(&self) -> u32 {

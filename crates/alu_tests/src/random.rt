@@ -1,6 +1,7 @@
 // Each operation on random rows.
 use crate::case::{Base, Case};
-use alu::{Flags, Operation, operate};
+use alu::{Flags, Operation, Worked, operate};
+use byte_rows::Row;
 use counting::binary::Binary;
 use counting::decimal::Decimal;
 use counting::{Link, chain};
@@ -145,6 +146,11 @@ fn check(rt: &impl Abort, case: &Case, op: Operation, left: Left) -> Result<(), 
     );
     let status = seen(case, Base::Binary.number(after.data()), left);
     assert_eq!(rt; told, Flags { status, e: left.e }, "{op:?} of {case:?}");
+    let worked = Worked {
+        row: Row::new(after.data, case.span),
+        flags: told,
+    };
+    assert_eq!(rt; case.operate_row(op), Ok(worked), "{op:?} of {case:?}");
     Ok(())
 }
 

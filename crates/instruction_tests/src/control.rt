@@ -1,5 +1,6 @@
 // Pointers, modes, E, saves, subroutines and jumps.
 use crate::setup::{carry, processor, ram};
+use byte_rows::Row;
 use registers::Status;
 use std::process::Abort;
 use std::test::Fail;
@@ -63,7 +64,7 @@ fn saves(rt: HostRuntime) -> Result<(), Fail> {
     want.set_pair(6, 0x183);
     assert_eq!(rt; cpu, want);
     assert_eq!(rt; done.at, 0x180);
-    assert_eq!(rt; done.bytes.as_slice(), &[0x4A, 0x9C, 0x0A][..]);
+    assert_eq!(rt; done.bytes, Row::new([0x4A, 0x9C, 0x0A, 0, 0, 0, 0, 0], 3));
     assert_eq!(rt; ram.load(0x180, &[0x4A, 0x9C, 0xFA]), Ok(()));
     cpu.arp = 0;
     cpu.drp = 0;
@@ -98,8 +99,9 @@ fn try_subroutine(rt: &(impl Abort + AllocGlobal), case: &Subroutine) -> Result<
     assert_eq!(rt; cpu, want, "code {code:?}");
     let returns = stored.is_empty();
     let length = if returns { 1 } else { 3 };
+    let bytes = done.bytes.bytes();
     assert_eq!(rt;
-        (done.bytes.as_slice(), done.length, done.returns),
+        (&bytes[..done.bytes.len()], done.length, done.returns),
         (stored, length, returns),
         "code {code:?}"
     );

@@ -133,7 +133,7 @@ fn try_of_the_data(rt: &(impl Abort + AllocGlobal), case: &OfTheData) -> Result<
         "code {code:?}"
     );
     assert_eq!(rt;
-        (done.length, done.bytes.as_slice().len(), done.returns),
+        (done.length, done.bytes.len(), done.returns),
         (length, 0, false),
         "code {code:?}"
     );
@@ -185,8 +185,9 @@ fn try_to_memory(rt: &(impl Abort + AllocGlobal), case: &ToMemory) -> Result<(),
     let mut want = changed(before, length, pair, (0o40, [0, 0]));
     want.status = cpu.status;
     assert_eq!(rt; cpu, want, "code {code:?}");
+    let stored = done.bytes.bytes();
     assert_eq!(rt;
-        (done.at, done.bytes.as_slice(), done.length),
+        (done.at, &stored[..done.bytes.len()], done.length),
         (at, bytes, length),
         "code {code:?}"
     );

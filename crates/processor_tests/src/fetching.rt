@@ -2,6 +2,7 @@
 use addressing::{fetch, pass, read_operand};
 use alu::Operation;
 use bus::{Bus, BusRefusal, Cause, Ram};
+use byte_rows::Row;
 use decode::{Base, Form, Instruction, Mode};
 use reading::{BusReader, Fault};
 use registers::Cpu;
@@ -59,7 +60,10 @@ fn across_the_last_address(rt: HostRuntime) -> Result<(), Fail> {
     let fetched = fetch(&mut BusReader::new(&ram, &[]), &after)?;
     let load = Instruction::Compute(Operation::Load, literal(false), Form::Byte);
     assert_eq!(rt; fetched.instruction, load);
-    assert!(rt; fetched.literal.as_slice() == [0x34, 0x12].as_slice());
+    assert_eq!(rt;
+        fetched.literal,
+        Row::new([0x34, 0x12, 0, 0, 0, 0, 0, 0], 2)
+    );
     pass(&mut after, &fetched);
     assert_eq!(rt; after, cpu(1));
     Ok(())

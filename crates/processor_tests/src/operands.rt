@@ -1,5 +1,5 @@
 // Where an operand in memory is, what its bytes are, and which pair is moved.
-use addressing::{base_address, data_row, move_pair, read_operand};
+use addressing::{base_address, move_pair, read_operand};
 use bus::{Bus, Ram};
 use byte_rows::Row;
 use decode::{Base, Form, Mode};
@@ -30,10 +30,7 @@ fn cpu(pair: u16) -> Cpu {
 
 // The literal address 2010.
 fn literal() -> Row {
-    Row {
-        bytes: [0x10, 0x20, 0, 0, 0, 0, 0, 0],
-        len: 2,
-    }
+    Row::new([0x10, 0x20, 0, 0, 0, 0, 0, 0], 2)
 }
 
 #[derive(Clone, Copy)]
@@ -193,7 +190,8 @@ fn try_case(rt: &impl Abort, ram: &Ram, case: Case) -> Result<(), Fail> {
     let mode = Some(Mode::Memory { base, indirect });
     let mut reader = BusReader::new(ram, &[]);
     let operand = read_operand(&mut reader, &cpu, mode, form, &literal())?;
-    assert!(rt; operand.as_slice() == case.operand);
+    let bytes = operand.bytes();
+    assert!(rt; &bytes[..operand.len()] == case.operand);
     move_pair(&mut cpu, base, indirect, form, &literal());
     assert_eq!(rt; cpu, after);
     Ok(())
@@ -225,9 +223,14 @@ fn in_registers(rt: HostRuntime) -> Result<(), Fail> {
     for (mode, form, operand) in table {
         let mut reader = BusReader::new(&ram, &[]);
         let read = read_operand(&mut reader, &cpu, mode, form, &literal())?;
-        assert!(rt; read.as_slice() == operand);
+        let bytes = read.bytes();
+        assert!(rt; &bytes[..read.len()] == operand);
     }
-    assert!(rt; data_row(&cpu, Form::Multi).as_slice() == [11, 12, 13, 14, 15, 16].as_slice());
-    assert!(rt; data_row(&cpu, Form::Byte).as_slice() == [11].as_slice());
+    let data = Row::new([11, 12, 13, 14, 15, 16, 0, 0], 6);
+    assert_eq!(rt; cpu.row(cpu.drp, Form::Multi), data);
+    assert_eq!(rt;
+        cpu.row(cpu.drp, Form::Byte),
+        Row::new([11, 0, 0, 0, 0, 0, 0, 0], 1)
+    );
     Ok(())
 }
