@@ -14,6 +14,17 @@ use decode::{Form, Mode};
 use reading::{BusReader, Fault};
 use registers::{Cpu, span};
 
+// Reads n bytes one after another.
+#[inline(always)]
+fn read_each<B: Bus>(reader: &mut BusReader<B>, address: u16, n: usize) -> Result<Row, Fault>
+    requires { n ≤ 8 }
+    ensures { ReadsBy B.Bus.meaning reader.old (row_tree n address) (map_ok bytes_of result) reader.new }
+{
+    let mut bytes = [0; 8];
+    reader.row(address, &mut bytes[..n])?;
+    Ok(Row::new(bytes, n))
+}
+
 // Reads n bytes from the address on, upward.
 #[inline(always)]
 pub fn read_bytes<B: Bus>(reader: &mut BusReader<B>, address: u16, n: usize) -> Result<Row, Fault>
@@ -26,11 +37,10 @@ pub fn read_bytes<B: Bus>(reader: &mut BusReader<B>, address: u16, n: usize) -> 
             let byte = reader.byte(address)?;
             Ok(Row::of_word(u64::from(byte), 1))
         }
-        _ => {
-            let mut bytes = [0; 8];
-            reader.row(address, &mut bytes[..n])?;
-            Ok(Row::new(bytes, n))
-        }
+        _ => match reader.eight(address) {
+            Some(bytes) => Ok(Row::new(bytes, n)),
+            None => read_each(reader, address, n),
+        },
     }
 }
 

@@ -1,7 +1,8 @@
 // What every bus does.
-ghost use Rattle.std.specs.Prelude.{◌≡◌, ℕ, ◌+◌, is_ok, length, if◌then◌else◌, nat_le};
+ghost use Rattle.std.specs.Prelude.{◌≡◌, ℕ, ◌+◌, is_ok, true, IfSome, length, if◌then◌else◌, nat_le};
 ghost use Rattle.bus.specs.Meaning.{Meaning, after, loaded};
 ghost use Rattle.bus.specs.Rules.{Rules};
+ghost use Rattle.bus.specs.Eights.{ReadsEight, TakesEight};
 
 use crate::refusal::BusRefusal;
 use byte_rows::PastEnd;
@@ -29,6 +30,22 @@ pub trait Bus {
         ensures answer { result ≡ (meaning self.old).takes address }
         ensures after { meaning self.new ≡ after (meaning self.old) address byte }
         ensures held { held self.new ≡ held self.old };
+
+    // Eight bytes from the address on, where this kind of bus can read them at once; none says nothing of them.
+    #[inline(always)]
+    fn read_eight(&self, _address: u16) -> Option<[u8; 8]>
+        ensures { IfSome result (λ bytes. ReadsEight (meaning self.now) _address bytes) }
+    {
+        None
+    }
+
+    // Whether it is seen at once that stores to eight addresses from this on would be taken; `false` says nothing.
+    #[inline(always)]
+    fn takes_eight(&self, _address: u16) -> bool
+        ensures { result ≡ true → TakesEight (meaning self.now) _address }
+    {
+        false
+    }
 }
 
 // A bus whose memory is filled before the exchange goes into service, behind whatever guards it.

@@ -61,4 +61,23 @@ impl Bus for Ram {
         self.bytes[i] = byte;
         Ok(())
     }
+
+    #[inline(always)]
+    fn read_eight(&self, address: u16) -> Option<[u8; 8]> {
+        let i = place(self.base, self.bytes.len(), address).ok()?;
+        if address > 65_528 || self.bytes.len() - i < 8 {
+            return None;
+        }
+        let mut bytes = [0; 8];
+        bytes.copy_from_slice(&self.bytes[i..i + 8]);
+        Some(bytes)
+    }
+
+    #[inline(always)]
+    fn takes_eight(&self, address: u16) -> bool {
+        match place(self.base, self.bytes.len(), address) {
+            Ok(i) => address <= 65_528 && self.bytes.len() - i >= 8,
+            Err(_) => false,
+        }
+    }
 }

@@ -28,6 +28,7 @@ pub struct BusRefusal {
 
 impl BusRefusal {
     // A refusal by the bus that was asked.
+    #[inline(always)]
     pub fn here(cause: Cause) -> BusRefusal
         ensures { result ≡ here cause }
     {
@@ -49,6 +50,7 @@ impl BusRefusal {
 }
 
 // What a bus below answered, as the layer above it passes it on.
+#[inline(always)]
 pub fn raise<T>(answer: Result<T, BusRefusal>) -> Result<T, BusRefusal>
     ensures { result ≡ raised answer }
 {

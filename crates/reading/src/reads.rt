@@ -1,5 +1,5 @@
 // Reads one byte, a pair or a row, and inquires about stores.
-ghost use Rattle.std.specs.Prelude.{◌≡◌, length};
+ghost use Rattle.std.specs.Prelude.{◌≡◌, ℕ, ◌+◌, ◌<◌, ◌≤◌, true, false, Ok, IfSome, take, length};
 ghost use Rattle.reading.specs.Readings.{ReadsBy, byte_tree, pair_tree, row_tree, row_with, row_got, stores_tree};
 ghost use Rattle.reading.specs.Sheets.{stained};
 
@@ -13,6 +13,16 @@ pub fn is_stained(sheet: &[u8], address: u16) -> bool
     ensures { result ≡ stained sheet.now address }
 {
     (byte_at(sheet, usize::from(address / 8)) >> (address % 8)) % 2 == 1
+}
+
+// Whether it is seen at once that none of the eight addresses from this one on is stained: two bytes of the sheet have their stains.
+#[inline(always)]
+#[tactic(auto, using(crate::proofs::Eights::none_stained))]
+fn is_clear(sheet: &[u8], address: u16) -> bool
+    ensures { (i : ℕ) → result ≡ true → i < 8 → stained sheet.now (address + i) ≡ false }
+{
+    let i = usize::from(address / 8);
+    byte_at(sheet, i) == 0 && byte_at(sheet, i + 1) == 0
 }
 
 // A reader of a bus, with the sheet of its stains.
@@ -75,12 +85,28 @@ impl<'a, B: Bus> BusReader<'a, B> {
         Ok(())
     }
 
+    // Eight bytes at once, of which any number are what a row is filled with; none where the bus has no short way, or where one
+    // of them may be stained and has to be told.
+    #[inline(always)]
+    pub fn eight(&self, address: u16) -> Option<[u8; 8]>
+        ensures { IfSome result (λ bytes. (n : ℕ) → n ≤ 8 → ReadsBy B.Bus.meaning self.now (row_tree n address) (Ok (take n bytes)) self.now) }
+    {
+        if self.told.is_some() || is_clear(self.sheet, address) {
+            self.bus.read_eight(address)
+        } else {
+            None
+        }
+    }
+
     // Inquires about stores to n addresses upward; the first that would not be taken refuses.
     #[inline(always)]
     #[tactic(auto, using(crate::proofs::Laws::store_more, crate::proofs::Laws::inquiring))]
     pub fn inquire(&self, address: u16, n: usize) -> Result<(), Fault>
         ensures { ReadsBy B.Bus.meaning self.now (stores_tree n address) result self.now }
     {
+        if n <= 8 && self.bus.takes_eight(address) {
+            return Ok(());
+        }
         for i in 0..n {
             let at = address.wrapping_add((i % 65536) as u16);
             let taken = self.bus.inquire(at);
