@@ -2,3 +2,5 @@ pub mod Shifting
 pub mod Overflow
 pub mod Signs
 pub mod Wholes
+pub mod Lanes
+pub mod Values

@@ -1,5 +1,5 @@
 -- Sums and differences of whole numbers, and their lowest bytes.
-use Rattle.std.proofs.Common.{◌≡◌, ℕ, zero, suc, ◌+◌, ◌-◌, ◌*◌, ◌/◌, ◌%◌, ◌^◌, ◌<◌, ◌≤◌, Bool, true, false, cond, get_or, not, min, ◌+ℤ◌, ◌-ℤ◌, leb, ltb, List, [], ◌∷◌, length, refl, ap, ◌∙◌, sym, arith}
+use Rattle.std.proofs.Common.{◌≡◌, ℕ, zero, suc, ◌+◌, ◌-◌, ◌*◌, ◌/◌, ◌%◌, ◌^◌, ◌<◌, ◌≤◌, Bool, true, false, cond, get_or, not, ◌+ℤ◌, ◌-ℤ◌, leb, ltb, List, [], ◌∷◌, length, refl, ap, ◌∙◌, sym, arith}
 use Rattle.std.proofs.lemmas.Nat.{mod-pow-add, mod-mul-add, mod_below, pow_pos, pow-add}
 use Rattle.std.proofs.lemmas.Bool.Decides.{nat_tests}
 use Rattle.byte_rows.specs.Short.{low_bytes}
@@ -11,13 +11,13 @@ use Rattle.counting.specs.System.{bit}
 use Rattle.counting.specs.System.{Lawful}
 use Rattle.counting.specs.declared.Link.{Link}
 use Rattle.alu.specs.Seen.{sized, negative}
-use Rattle.alu.specs.Sums.{overflow_of, signs_of}
+use Rattle.alu.specs.Sums.{system_of, overflow_of, signs_of}
 use Rattle.alu.proofs.Signs.{row_sized, carry_sized, signs_tell}
 use Rattle.alu.specs.Signed.{signed, fits}
 use Rattle.alu.specs.Logic.{joined_row}
 use Rattle.alu.specs.declared.logic.Logic.TheVariants.{Replace}
 use Rattle.alu.specs.declared.operations.Flags.{Flags}
-use Rattle.alu.specs.Operations.{shown}
+use Rattle.alu.specs.Operations.{shown, overflow_in}
 use Rattle.std.proofs.Math.Nat.{mod-eq_of_lt, le-mul_of_pos_right}
 
 power_more : (n : ℕ) → 2 ^ (8 * suc n) ≡ 2 ^ (8 * n) * 256
@@ -36,7 +36,7 @@ cut_word n w h =
     ap (λ p. w % 2 ^ p % 2 ^ (8 * n)) e ∙ cut_twice n (64 - 8 * n) w
 
 -- The lowest bytes of a word are those of the number that was cut to it.
-low_word : (n w : ℕ) → n ≤ 8 → low_bytes n (w % 2 ^ 64) ≡ low_bytes n w
+pub low_word : (n w : ℕ) → n ≤ 8 → low_bytes n (w % 2 ^ 64) ≡ low_bytes n w
 low_word n w h = sym (low_cut n (w % 2 ^ 64)) ∙ ap (low_bytes n) (cut_word n w h) ∙ low_cut n w
 
 pub sum_row : (n a b : ℕ) (c : Bool) → row_of binary Add (low_bytes n a) (low_bytes n b) c ≡ low_bytes n (a + b + bit c)
@@ -171,11 +171,11 @@ overflow_sized Negate xs ys = refl
 overflow_sized Complement xs ys = refl
 
 -- What is told of a chain over the operand as it is, from one over the operand cut to the data's length.
-pub told_sized : (l : Link) (f : Flags) (on : Bool → Bool) (xs ys : List ℕ) → shown f (on (carry_of binary l xs (sized (length xs) ys) false)) (overflow_of l xs (sized (length xs) ys)) (row_of binary l xs (sized (length xs) ys) false) ≡ shown f (on (carry_of binary l xs ys false)) (overflow_of l xs ys) (row_of binary l xs ys false)
-told_sized l f on xs ys =
-    let r = row_sized binary l xs ys false in
-    let c = carry_sized binary l xs ys false in
-    let o = overflow_sized l xs ys in
+pub told_sized : (d : Bool) (l : Link) (f : Flags) (on : Bool → Bool) (xs ys : List ℕ) → shown f (on (carry_of (system_of d) l xs (sized (length xs) ys) false)) (overflow_in d l xs (sized (length xs) ys)) (row_of (system_of d) l xs (sized (length xs) ys) false) ≡ shown f (on (carry_of (system_of d) l xs ys false)) (overflow_in d l xs ys) (row_of (system_of d) l xs ys false)
+told_sized d l f on xs ys =
+    let r = row_sized (system_of d) l xs ys false in
+    let c = carry_sized (system_of d) l xs ys false in
+    let o = ap (cond d false) (overflow_sized l xs ys) in
     sym (λ i. shown f (on (c i)) (sym o i) (r i))
 
 pub joined_sized : (xs ys : List ℕ) → joined_row Replace xs ys ≡ sized (length xs) ys

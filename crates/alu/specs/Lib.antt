@@ -6,3 +6,4 @@ pub mod Sums
 pub mod Operations
 pub mod Examples
 pub mod Words
+pub mod Lanes

@@ -1,6 +1,7 @@
 // What the processor works out on rows of bytes, low byte first.
 #![tactic(auto)]
 
+mod decimals;
 mod examples;
 mod logic;
 mod operations;

@@ -1,15 +1,17 @@
-// Operations on rows of up to eight bytes, which are words: sums, differences and loads are worked out at once, and the rest
-// byte by byte.
-ghost use Rattle.std.specs.Prelude.{◌≡◌, false, length};
+// Operations on rows of up to eight bytes, which are words: sums, differences and loads are worked out at once, and the rest, and
+// what is refused, byte by byte.
+ghost use Rattle.std.specs.Prelude.{◌≡◌, true, false, length};
 ghost use Rattle.byte_rows.specs.Short.{bytes_of};
 ghost use Rattle.counting.specs.Binary.{binary};
 ghost use Rattle.counting.specs.Chain.{row_of, carry_of};
 ghost use Rattle.counting.specs.declared.Link.TheVariants.{Add as Plus, Subtract as Less};
 ghost use Rattle.alu.specs.Seen.{sized, seen};
-ghost use Rattle.alu.specs.Sums.{overflow_of};
-ghost use Rattle.alu.specs.Operations.{shown, summed, lessened, operated};
+ghost use Rattle.alu.specs.Sums.{system_of, overflow_of};
+ghost use Rattle.alu.specs.Operations.{shown, overflow_in, summed, lessened, operated};
+ghost use Rattle.alu.specs.Lanes.{countable};
 ghost use Rattle.alu.specs.Words.{done_of, rows_done};
 
+use crate::decimals::{add_decimals, are_digits, subtract_decimals};
 use crate::operations::{Flags, NotDecimal, Operation, operate};
 use crate::sums::{Carried, overflows};
 use byte_rows::Row;
@@ -25,9 +27,9 @@ pub struct Worked {
 
 // A sum or difference, and what is told of it.
 #[derive(Clone, Copy, PartialEq, Eq, Debug)]
-struct Combined {
-    row: Row,
-    carried: Carried,
+pub(crate) struct Combined {
+    pub(crate) row: Row,
+    pub(crate) carried: Carried,
 }
 
 // The status after a result that is a row.
@@ -60,7 +62,7 @@ fn size(row: &Row, operand: &Row) -> Row
 
 // A sum in binary, of rows of one length.
 #[inline(always)]
-fn add(a: &Row, b: &Row) -> Combined
+pub(crate) fn add(a: &Row, b: &Row) -> Combined
     requires { a.now.len ≡ b.now.len }
     ensures row { bytes_of result.row ≡ row_of binary Plus (bytes_of a.now) (bytes_of b.now) false }
     ensures carry { result.carried.carry ≡ carry_of binary Plus (bytes_of a.now) (bytes_of b.now) false }
@@ -83,7 +85,7 @@ fn add(a: &Row, b: &Row) -> Combined
 
 // A difference in binary, of rows of one length.
 #[inline(always)]
-fn subtract(a: &Row, b: &Row) -> Combined
+pub(crate) fn subtract(a: &Row, b: &Row) -> Combined
     requires { a.now.len ≡ b.now.len }
     ensures row { bytes_of result.row ≡ row_of binary Less (bytes_of a.now) (bytes_of b.now) false }
     ensures carry { result.carried.carry ≡ carry_of binary Less (bytes_of a.now) (bytes_of b.now) false }
@@ -104,6 +106,40 @@ fn subtract(a: &Row, b: &Row) -> Combined
     }
 }
 
+// A sum in the counting of the mode.
+#[inline(always)]
+fn sum_in(decimal: bool, a: &Row, b: &Row) -> Combined
+    requires same { a.now.len ≡ b.now.len }
+    requires data { countable decimal a.now ≡ true }
+    requires operand { countable decimal b.now ≡ true }
+    ensures row { bytes_of result.row ≡ row_of (system_of decimal) Plus (bytes_of a.now) (bytes_of b.now) false }
+    ensures carry { result.carried.carry ≡ carry_of (system_of decimal) Plus (bytes_of a.now) (bytes_of b.now) false }
+    ensures overflow { result.carried.overflow ≡ overflow_in decimal Plus (bytes_of a.now) (bytes_of b.now) }
+{
+    if decimal {
+        add_decimals(a, b)
+    } else {
+        add(a, b)
+    }
+}
+
+// A difference in the counting of the mode.
+#[inline(always)]
+fn difference_in(decimal: bool, a: &Row, b: &Row) -> Combined
+    requires same { a.now.len ≡ b.now.len }
+    requires data { countable decimal a.now ≡ true }
+    requires operand { countable decimal b.now ≡ true }
+    ensures row { bytes_of result.row ≡ row_of (system_of decimal) Less (bytes_of a.now) (bytes_of b.now) false }
+    ensures carry { result.carried.carry ≡ carry_of (system_of decimal) Less (bytes_of a.now) (bytes_of b.now) false }
+    ensures overflow { result.carried.overflow ≡ overflow_in decimal Less (bytes_of a.now) (bytes_of b.now) }
+{
+    if decimal {
+        subtract_decimals(a, b)
+    } else {
+        subtract(a, b)
+    }
+}
+
 impl Flags {
     // With what is seen of a row; E stays.
     #[inline(always)]
@@ -119,21 +155,33 @@ impl Flags {
         }
     }
 
+    // Whether the counting of the mode can count with a row's bytes.
+    #[inline(always)]
+    fn counts(self, row: &Row) -> bool
+        ensures { result ≡ countable self.status.dcm row.now }
+    {
+        !self.status.dcm || are_digits(row.word)
+    }
+
     #[inline(always)]
     fn add_row(self, row: &Row, operand: &Row) -> Worked
-        requires { self.status.dcm ≡ false }
+        requires row { countable self.status.dcm row.now ≡ true }
+        requires operand { countable self.status.dcm operand.now ≡ true }
         ensures { done_of result ≡ summed self (bytes_of row.now) (bytes_of operand.now) }
     {
-        let sum = add(row, &size(row, operand));
+        let operand = size(row, operand);
+        let sum = sum_in(self.status.dcm, row, &operand);
         self.see_row(sum.carried.carry, sum.carried.overflow, sum.row)
     }
 
     #[inline(always)]
     fn lessen_row(self, row: &Row, operand: &Row) -> Worked
-        requires { self.status.dcm ≡ false }
+        requires row { countable self.status.dcm row.now ≡ true }
+        requires operand { countable self.status.dcm operand.now ≡ true }
         ensures { done_of result ≡ lessened Less self (bytes_of row.now) (bytes_of operand.now) }
     {
-        let difference = subtract(row, &size(row, operand));
+        let operand = size(row, operand);
+        let difference = difference_in(self.status.dcm, row, &operand);
         self.see_row(
             !difference.carried.carry,
             difference.carried.overflow,
@@ -164,7 +212,7 @@ fn operate_bytes(
 
 // Works on a row with an operand.
 #[inline(always)]
-#[tactic(auto, using(crate::proofs::Wholes::joined_sized, byte_rows::proofs::Lows::one_low))]
+#[tactic(auto, using(crate::proofs::Wholes::joined_sized, crate::proofs::Lanes::counted, crate::proofs::Lanes::one_counts, byte_rows::proofs::Lows::one_low))]
 pub fn operate_row(
     op: Operation,
     flags: Flags,
@@ -176,12 +224,14 @@ pub fn operate_row(
     match op {
         Operation::Load => Ok(flags.see_row(false, false, size(row, operand))),
         Operation::Test => Ok(flags.see_row(false, false, *row)),
-        Operation::Increment if !flags.status.dcm => Ok(flags.add_row(row, &Row::of_word(1, 1))),
-        Operation::Decrement if !flags.status.dcm => Ok(flags.lessen_row(row, &Row::of_word(1, 1))),
-        Operation::Add if !flags.status.dcm => Ok(flags.add_row(row, operand)),
-        Operation::Compare | Operation::Subtract if !flags.status.dcm => Ok(flags.lessen_row(
+        Operation::Increment if flags.counts(row) => Ok(flags.add_row(row, &Row::of_word(1, 1))),
+        Operation::Decrement if flags.counts(row) => Ok(flags.lessen_row(row, &Row::of_word(1, 1))),
+        Operation::Add if flags.counts(row) && flags.counts(operand) => Ok(flags.add_row(
             row, operand,
         )),
+        Operation::Compare | Operation::Subtract if flags.counts(row) && flags.counts(operand) => {
+            Ok(flags.lessen_row(row, operand))
+        }
         _ => operate_bytes(op, flags, row, operand),
     }
 }
