@@ -78,8 +78,8 @@ impl Cold {
     // Goes into service on the bus: all of the processor's state is zero but the program counter and the return pointer. From here
     // on, whatever steps, runs and rings come, with a sheet that is blank now:
     // - if no step tells a stain and no visit ends marred, every exchange that is never rung and gets the same steps outside
-    //   visits, on whatever bus of equal meaning, gives the same answers and ends alike;
-    // - an address is stained exactly when a handler was the last to store there;
+    //   visits, on whatever bus of equal meaning, gives the same answers and ends alike, and there is such an exchange;
+    // - an address is stained exactly when a handler was the last to store there, and the sheet keeps its size;
     // - what is said of meanings holds of every kind of bus; RAM, ROM and the line board are buses, and so is every pile of guards,
     //   splits and shadows over buses, however high.
     pub fn go<B: Bus>(self, bus: &B, pc: u16, return_pointer: u16) -> Live
