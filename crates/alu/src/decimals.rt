@@ -146,7 +146,6 @@ fn outcome_digits(word: u64) -> u64
 }
 
 // A decimal sum, of rows of one length.
-#[inline(always)]
 pub(crate) fn add_decimals(a: &Row, b: &Row) -> Combined
     requires same { a.now.len ≡ b.now.len }
     requires data { all_bytes two_digits a.now.word ≡ true }
@@ -164,7 +163,6 @@ pub(crate) fn add_decimals(a: &Row, b: &Row) -> Combined
 }
 
 // A decimal difference, of rows of one length.
-#[inline(always)]
 pub(crate) fn subtract_decimals(a: &Row, b: &Row) -> Combined
     requires same { a.now.len ≡ b.now.len }
     requires data { all_bytes two_digits a.now.word ≡ true }

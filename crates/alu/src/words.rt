@@ -191,7 +191,6 @@ impl Flags {
 }
 
 // The operation byte by byte.
-#[inline(always)]
 fn operate_bytes(
     op: Operation,
     flags: Flags,

@@ -14,7 +14,6 @@ pub struct Guard<B> {
 }
 
 impl<B> Guard<B> {
-    #[inline(always)]
     pub fn locks(&self, address: u16) -> bool
         ensures { result ≡ guarded self.now.first self.now.last address }
     {
@@ -22,7 +21,6 @@ impl<B> Guard<B> {
     }
 
     // Refuses a store to a locked address.
-    #[inline(always)]
     pub fn admit(&self, address: u16) -> Result<(), BusRefusal>
         ensures { result ≡ guard_admits self.now.first self.now.last address }
     {
@@ -42,30 +40,25 @@ impl<B: Bus> Bus for Guard<B> {
 
     ghost rules = { λ s. guard_rules s.first s.last (B.Bus.meaning s.below) (B.Bus.rules s.below) };
 
-    #[inline(always)]
     fn read(&self, address: u16) -> Result<u8, BusRefusal> {
         raise(self.below.read(address))
     }
 
-    #[inline(always)]
     fn inquire(&self, address: u16) -> Result<(), BusRefusal> {
         self.admit(address)?;
         raise(self.below.inquire(address))
     }
 
-    #[inline(always)]
     fn store(&mut self, address: u16, byte: u8) -> Result<(), BusRefusal> {
         self.admit(address)?;
         raise(self.below.store(address, byte))
     }
 
-    #[inline(always)]
     fn read_eight(&self, address: u16) -> Option<[u8; 8]> {
         self.below.read_eight(address)
     }
 
     // None of the eight is locked where the range ends before them or begins after them.
-    #[inline(always)]
     fn takes_eight(&self, address: u16) -> bool {
         let is_apart = self.last < address || self.first > address.saturating_add(7);
         is_apart && self.below.takes_eight(address)

@@ -21,7 +21,6 @@ impl<L: Bus, U: Bus> Bus for Split<L, U> {
 
     ghost rules = { λ s. split_rules s.at (L.Bus.meaning s.low) (U.Bus.meaning s.high) (L.Bus.rules s.low) (U.Bus.rules s.high) };
 
-    #[inline(always)]
     fn read(&self, address: u16) -> Result<u8, BusRefusal> {
         raise(if address < self.at {
             self.low.read(address)
@@ -30,7 +29,6 @@ impl<L: Bus, U: Bus> Bus for Split<L, U> {
         })
     }
 
-    #[inline(always)]
     fn inquire(&self, address: u16) -> Result<(), BusRefusal> {
         raise(if address < self.at {
             self.low.inquire(address)
@@ -39,7 +37,6 @@ impl<L: Bus, U: Bus> Bus for Split<L, U> {
         })
     }
 
-    #[inline(always)]
     fn store(&mut self, address: u16, byte: u8) -> Result<(), BusRefusal> {
         raise(if address < self.at {
             self.low.store(address, byte)
@@ -49,7 +46,6 @@ impl<L: Bus, U: Bus> Bus for Split<L, U> {
     }
 
     // All eight are on one side, or nothing is said of them.
-    #[inline(always)]
     fn read_eight(&self, address: u16) -> Option<[u8; 8]> {
         if address >= self.at {
             self.high.read_eight(address)
@@ -60,7 +56,6 @@ impl<L: Bus, U: Bus> Bus for Split<L, U> {
         }
     }
 
-    #[inline(always)]
     fn takes_eight(&self, address: u16) -> bool {
         if address >= self.at {
             self.high.takes_eight(address)
