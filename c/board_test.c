@@ -1,9 +1,12 @@
-// Plays a worked tape on a board, call by call, and then everything out of turn and refused. It prints what differs, and ends
-// with status 1 if anything does.
+// Plays a worked tape on a board, call by call, and then everything out of turn and refused; then boards are made and freed in
+// little memory. It prints what differs, and ends with status 1 if anything does.
+#define _XOPEN_SOURCE 700
+
 #include "board.h"
 
 #include <stdio.h>
 #include <string.h>
+#include <sys/resource.h>
 
 static int differ;
 
@@ -186,9 +189,54 @@ static void refusals(void) {
     check("freed", board_free(&b), 0);
 }
 
+// In 64 MiB: a board takes some 40 KiB, so that boards which were not freed would fill it several times.
+static void little_memory(void) {
+    enum { MANY = 8192 };
+    static const uint8_t program[] = {0x89};
+    static const uint8_t vector[] = {0x00, 0x01};
+    static board boards[MANY];
+    const struct rlimit limit = {.rlim_cur = 64 << 20, .rlim_max = 64 << 20};
+    board_said said;
+    board_ran ran;
+    board_read_out end;
+    uint16_t pc;
+    int made = 0;
+
+    check("a limit", setrlimit(RLIMIT_AS, &limit), 0);
+    for (int n = 0; n < MANY && !differ; n++) {
+        board b = {0};
+        check("made in turn", board_new(&b), 0);
+        check("made twice", board_new(&b), 12);
+        check("loaded", board_load(&b, 0x0100, program, sizeof program), 0);
+        check("loaded", board_load(&b, 0x0008, vector, sizeof vector), 0);
+        check("go", board_go(&b, 0x0100, 0x0400), 0);
+        check("a step", board_step(&b, &said), 0);
+        check("a ring", board_ring(&b, 0x0008, &said), 0);
+        check("a run", board_run(&b, 1, &ran), 0);
+        check("the program counter", board_pc(&b, &pc), 0);
+        if (n % 2 == 0) {
+            check("the read-out", board_end(&b, &end), 0);
+        }
+        check("freed in turn", board_free(&b), 0);
+    }
+    while (made < MANY && board_new(&boards[made]) == 0) {
+        made++;
+    }
+    check("there is memory for some", made > 100, true);
+    check("and not for all", made < MANY, true);
+    if (made < MANY) {
+        check("for want of memory", board_new(&boards[made]), BOARD_NO_MEMORY);
+        check("none was made", board_free(&boards[made]), 12);
+    }
+    for (int n = 0; n < made; n++) {
+        check("freed", board_free(&boards[n]), 0);
+    }
+}
+
 int main(void) {
     worked_tape();
     refusals();
+    little_memory();
     if (differ) {
         return 1;
     }
