@@ -1,4 +1,5 @@
 // An exchange with its bus and its sheet, as the tests call it.
+use crate::same;
 use bus::{Bus, Ram};
 use engine::{Cold, Live, Report, SHEET_SIZE};
 use layers::Guard;
@@ -30,9 +31,9 @@ pub fn begun(
         base: 0,
         bytes: vec![in rt.alloc(); 0u8; 60_000]?,
     };
-    assert_eq!(rt; below.load(VECTOR, &[0, 3]), Ok(()));
-    assert_eq!(rt; below.load(256, program), Ok(()));
-    assert_eq!(rt; below.load(768, handler), Ok(()));
+    same(rt, "vector", below.load(VECTOR, &[0, 3]), Ok(()));
+    same(rt, "program", below.load(256, program), Ok(()));
+    same(rt, "handler", below.load(768, handler), Ok(()));
     let bus = Guard {
         first: 0,
         last: 255,
@@ -54,7 +55,7 @@ impl Exchange {
 
     // A ring that is taken.
     pub fn rung(&mut self, rt: &impl Abort) {
-        assert_eq!(rt; self.ring(VECTOR), Ok(()));
+        same(rt, "ring", self.ring(VECTOR), Ok(()));
     }
 
     pub fn run(&mut self, n: u16) -> Result<Report, Refusal> {

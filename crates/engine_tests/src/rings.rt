@@ -1,5 +1,6 @@
 // Refused rings: with what, and that they change nothing.
 use crate::exchange::{Exchange, RAM_END, VECTOR, begun};
+use crate::same;
 use bus::{BusRefusal, Cause};
 use noninterference::{Refusal, StepFault};
 use reading::Fault;
@@ -31,8 +32,8 @@ fn try_ring(
         fault,
         told: None,
     };
-    assert_eq!(rt; exchange.ring(vector), Err(refusal));
-    assert_eq!(rt; fault.number(), number);
+    same(rt, vector, exchange.ring(vector), Err(refusal));
+    same(rt, number, fault.number(), number);
 }
 
 // A return pointer, a vector, the refusal of that ring, and its number.
@@ -45,7 +46,7 @@ fn try_case(
 ) -> Result<(), Fail> {
     let mut exchange = ready(rt, return_pointer)?;
     try_ring(rt, &mut exchange, 256, vector, fault, number);
-    assert_eq!(rt; exchange, ready(rt, return_pointer)?);
+    same(rt, vector, &exchange, &ready(rt, return_pointer)?);
     Ok(())
 }
 

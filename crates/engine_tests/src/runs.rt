@@ -1,6 +1,6 @@
 // How runs end.
 use crate::exchange::{Exchange, begun};
-use engine::Report;
+use crate::same;
 use noninterference::Letter;
 use std::process::Abort;
 use std::test::Fail;
@@ -111,10 +111,11 @@ const CASES: [Case; 10] = [
 ];
 
 fn try_run(rt: &impl Abort, exchange: &mut Exchange, case: &Case) -> Result<(), Fail> {
-    let Report { done, letter, last } = exchange.run(case.n)?;
-    let left = (letter, done, exchange.live.pc());
-    assert_eq!(rt; left, (case.letter, case.done, case.pc), "{}", case.name);
-    assert_eq!(rt; last.is_none(), case.n == 0, "{}", case.name);
+    let report = exchange.run(case.n)?;
+    same(rt, case.name, report.letter, case.letter);
+    same(rt, case.name, report.done, case.done);
+    same(rt, case.name, report.last.is_none(), case.n == 0);
+    same(rt, case.name, exchange.live.pc(), case.pc);
     Ok(())
 }
 

@@ -1,5 +1,6 @@
 // Sheets of the wrong size, and stains set and cleared.
 use crate::exchange::{Exchange, VECTOR, begun};
+use crate::same;
 use noninterference::{Refusal, StepFault};
 use std::process::Abort;
 use std::test::Fail;
@@ -16,9 +17,9 @@ fn refuses_all(rt: &impl Abort, exchange: &mut Exchange) {
         fault: StepFault::Sheet,
         told: None,
     };
-    assert_eq!(rt; exchange.step().err(), Some(refusal));
-    assert_eq!(rt; exchange.ring(VECTOR + 1).err(), Some(refusal));
-    assert_eq!(rt; exchange.run(0).err(), Some(refusal));
+    same(rt, "step", exchange.step().err(), Some(refusal));
+    same(rt, "ring", exchange.ring(VECTOR + 1).err(), Some(refusal));
+    same(rt, "run", exchange.run(0).err(), Some(refusal));
 }
 
 // Every call is refused first where the sheet has another size than 8,192 bytes, and changes nothing.
@@ -27,9 +28,9 @@ fn wrong_size(rt: HostRuntime) -> Result<(), Fail> {
     for size in [0, 8191, 8193] {
         let mut exchange = with_sheet(&rt, size)?;
         refuses_all(&rt, &mut exchange);
-        assert_eq!(rt; exchange, with_sheet(&rt, size)?);
+        same(&rt, size, &exchange, &with_sheet(&rt, size)?);
     }
-    assert_eq!(rt; StepFault::Sheet.number(), 1);
+    same(&rt, "number", StepFault::Sheet.number(), 1);
     Ok(())
 }
 
@@ -41,8 +42,8 @@ fn try_step(
     stains: u8,
 ) -> Result<(), Fail> {
     let answer = exchange.step()?;
-    assert_eq!(rt; answer.told, told);
-    assert_eq!(rt; exchange.sheet.get(128), Some(&stains));
+    same(rt, "told", answer.told, told);
+    same(rt, "stains", exchange.sheet.get(128), Some(&stains));
     Ok(())
 }
 
@@ -54,7 +55,12 @@ fn set_and_cleared(rt: HostRuntime) -> Result<(), Fail> {
     let program = [0xB0, 0x01, 0x04, 0xB2, 0x01, 0x04, 0xB0, 0x01, 0x04];
     let mut exchange = begun(&rt, &program, &[0x9E], 1024)?;
     exchange.rung(&rt);
-    assert_eq!(rt; exchange.sheet.get(128), Some(&0b11));
+    same(
+        &rt,
+        "stains of the ring",
+        exchange.sheet.get(128),
+        Some(&0b11),
+    );
     for (told, stains) in [(None, 0b11), (Some(1025), 0b11), (None, 0b01), (None, 0b01)] {
         try_step(&rt, &mut exchange, told, stains)?;
     }
@@ -67,8 +73,8 @@ fn refused_store(rt: HostRuntime) -> Result<(), Fail> {
     // STM of R0 and R1 to 59,999, the last byte of RAM.
     let mut exchange = begun(&rt, &[0xB3, 0x5F, 0xEA], &[0x9E], 59_998)?;
     exchange.rung(&rt);
-    let steps = (exchange.step().is_ok(), exchange.step().is_ok());
-    assert_eq!(rt; steps, (true, false));
-    assert_eq!(rt; exchange.sheet.get(7499), Some(&0b1100_0000));
+    same(&rt, "the visit's step", exchange.step().is_ok(), true);
+    same(&rt, "the store", exchange.step().is_ok(), false);
+    same(&rt, "stains", exchange.sheet.get(7499), Some(&0b1100_0000));
     Ok(())
 }

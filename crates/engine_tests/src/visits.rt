@@ -1,5 +1,6 @@
 // How visits end, and that a clean one leaves no trace.
 use crate::exchange::{Exchange, RAM_END, begun, ended};
+use crate::same;
 use bus::Bus;
 use engine::Report;
 use noninterference::{Letter, VisitEnd};
@@ -38,7 +39,12 @@ fn try_case(rt: &(impl Abort + AllocGlobal), case: &Case) -> Result<(), Fail> {
     let mut exchange = begun(rt, &[0x88], handler, 1024)?;
     exchange.rung(rt);
     let report = exchange.run(steps)?;
-    assert_eq!(rt; (report.done, ended(report)), (steps, Some(end)));
+    same(
+        rt,
+        handler,
+        (report.done, ended(report)),
+        (steps, Some(end)),
+    );
     // No visit is open any more.
     exchange.rung(rt);
     Ok(())
@@ -73,7 +79,7 @@ fn ready(rt: &(impl Abort + AllocGlobal)) -> Result<Exchange, Fail> {
 // A run of all its steps.
 fn run(rt: &impl Abort, exchange: &mut Exchange, n: u16) -> Result<Report, Fail> {
     let report = exchange.run(n)?;
-    assert_eq!(rt; report.letter, Letter::Done);
+    same(rt, n, report.letter, Letter::Done);
     Ok(report)
 }
 
@@ -82,18 +88,28 @@ fn rung_after(rt: &impl Abort, exchange: &mut Exchange, k: u16) -> Result<(), Fa
     run(rt, exchange, k)?;
     exchange.rung(rt);
     let visit = run(rt, exchange, HANDLER_STEPS)?;
-    assert_eq!(rt; ended(visit), Some(VisitEnd::Clean));
+    same(rt, k, ended(visit), Some(VisitEnd::Clean));
     run(rt, exchange, STEPS.saturating_sub(k))?;
     Ok(())
 }
 
 // The same read-out, and the same bytes but where the handler was the last to store.
 fn alike(rt: &impl Abort, rung: &Exchange, undisturbed: &Exchange) {
-    assert_eq!(rt; is_stained(&rung.sheet, 0x2001), true);
-    assert_eq!(rt; rung.bus.read(0x2001), Ok(0x77));
+    same(
+        rt,
+        "a stain of the handler",
+        is_stained(&rung.sheet, 0x2001),
+        true,
+    );
+    same(rt, "a byte of the handler", rung.bus.read(0x2001), Ok(0x77));
     for address in 0..RAM_END {
         if !is_stained(&rung.sheet, address) {
-            assert_eq!(rt; rung.bus.read(address), undisturbed.bus.read(address));
+            same(
+                rt,
+                address,
+                rung.bus.read(address),
+                undisturbed.bus.read(address),
+            );
         }
     }
 }
@@ -107,7 +123,7 @@ fn rung_anywhere(rt: HostRuntime) -> Result<(), Fail> {
         let mut rung = ready(&rt)?;
         rung_after(&rt, &mut rung, k)?;
         alike(&rt, &rung, &undisturbed);
-        assert_eq!(rt; rung.live.end(), undisturbed.live.end());
+        same(&rt, k, rung.live.end(), undisturbed.live.end());
     }
     Ok(())
 }

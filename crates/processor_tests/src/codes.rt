@@ -1,11 +1,12 @@
 // Codes and what they stand for.
+use crate::same;
 use alu::Operation;
 use decode::{Base, Form, Instruction, Mode, Source, decode, is_legal};
 
 #[test]
 fn two_codes_are_illegal(rt: HostRuntime) {
     for code in 0..=255u8 {
-        assert_eq!(rt; is_legal(code), code != 0xD6 && code != 0xDE);
+        same(&rt, code, is_legal(code), code != 0xD6 && code != 0xDE);
     }
 }
 
@@ -16,16 +17,30 @@ fn a_store(rt: HostRuntime) {
         base: Base::Literal,
         indirect: false,
     };
-    assert_eq!(rt;
+    same(
+        &rt,
+        "ARP 42",
         decode(0x22),
-        Some(Instruction::SetArp(Source::Number(0x22)))
+        Some(Instruction::SetArp(Source::Number(0x22))),
     );
-    assert_eq!(rt; decode(0xB2), Some(Instruction::Store(literal, Form::Byte)));
-    assert_eq!(rt;
+    same(
+        &rt,
+        "STBD =",
+        decode(0xB2),
+        Some(Instruction::Store(literal, Form::Byte)),
+    );
+    same(
+        &rt,
+        "STMD =",
         decode(0xB3),
-        Some(Instruction::Store(literal, Form::Multi))
+        Some(Instruction::Store(literal, Form::Multi)),
     );
-    assert_eq!(rt; decode(0x01), Some(Instruction::SetArp(Source::R0)));
+    same(
+        &rt,
+        "ARP *",
+        decode(0x01),
+        Some(Instruction::SetArp(Source::R0)),
+    );
 }
 
 fn memory(base: Base, indirect: bool) -> Option<Mode> {
@@ -55,12 +70,22 @@ fn operands(rt: HostRuntime) {
     ];
     for (code, operation, operand) in table {
         let instruction = Instruction::Compute(operation, operand, Form::Byte);
-        assert_eq!(rt; decode(code), Some(instruction));
+        same(&rt, code, decode(code), Some(instruction));
     }
 }
 
 #[test]
 fn subroutine_jumps(rt: HostRuntime) {
-    assert_eq!(rt; decode(0xC6), Some(Instruction::Call(Base::Indexed)));
-    assert_eq!(rt; decode(0xCE), Some(Instruction::Call(Base::Literal)));
+    same(
+        &rt,
+        "JSB X",
+        decode(0xC6),
+        Some(Instruction::Call(Base::Indexed)),
+    );
+    same(
+        &rt,
+        "JSB =",
+        decode(0xCE),
+        Some(Instruction::Call(Base::Literal)),
+    );
 }

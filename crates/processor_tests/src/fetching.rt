@@ -1,4 +1,5 @@
 // What is fetched and passed, and which stained address is told.
+use crate::same;
 use addressing::{fetch, pass, read_operand};
 use alu::Operation;
 use bus::{Bus, BusRefusal, Cause, Ram};
@@ -6,6 +7,7 @@ use byte_rows::Row;
 use decode::{Base, Form, Instruction, Mode};
 use reading::{BusReader, Fault};
 use registers::Cpu;
+use std::process::Abort;
 use std::test::Fail;
 
 // From DRP, R42, a multi form spans six registers.
@@ -21,30 +23,36 @@ fn literal(indirect: bool) -> Option<Mode> {
 }
 
 // How many bytes follow a code: none, an offset, an address, or as many as the data.
+const LENGTHS: [(u8, u8); 11] = [
+    (0x22, 1),
+    (0x9E, 1),
+    (0xE9, 1),
+    (0xF7, 2),
+    (0xA8, 2),
+    (0xCE, 3),
+    (0xC6, 3),
+    (0xB2, 3),
+    (0xBD, 3),
+    (0xA9, 7),
+    (0xC9, 7),
+];
+
+fn try_length(rt: &impl Abort, ram: &mut Ram, code: u8, length: u8) -> Result<(), Fail> {
+    same(rt, code, ram.store(0, code), Ok(()));
+    let mut cpu = cpu(0);
+    let fetched = fetch(&mut BusReader::new(ram, &[]), &cpu)?;
+    same(rt, code, fetched.length(), length);
+    pass(&mut cpu, &fetched);
+    same(rt, code, cpu.pc(), u16::from(length));
+    Ok(())
+}
+
 #[test]
 fn lengths(rt: HostRuntime) -> Result<(), Fail> {
     let bytes = vec![in rt.alloc(); 9u8; 16]?;
     let mut ram = Ram { base: 0, bytes };
-    let table = [
-        (0x22, 1),
-        (0x9E, 1),
-        (0xE9, 1),
-        (0xF7, 2),
-        (0xA8, 2),
-        (0xCE, 3),
-        (0xC6, 3),
-        (0xB2, 3),
-        (0xBD, 3),
-        (0xA9, 7),
-        (0xC9, 7),
-    ];
-    for (code, length) in table {
-        assert_eq!(rt; ram.store(0, code), Ok(()));
-        let mut cpu = cpu(0);
-        let fetched = fetch(&mut BusReader::new(&ram, &[]), &cpu)?;
-        assert_eq!(rt; fetched.length(), length, "code {code:02X}");
-        pass(&mut cpu, &fetched);
-        assert_eq!(rt; cpu.pc(), u16::from(length), "code {code:02X}");
+    for (code, length) in LENGTHS {
+        try_length(&rt, &mut ram, code, length)?;
     }
     Ok(())
 }
@@ -54,18 +62,20 @@ fn lengths(rt: HostRuntime) -> Result<(), Fail> {
 fn across_the_last_address(rt: HostRuntime) -> Result<(), Fail> {
     let bytes = vec![in rt.alloc(); 0x12u8; 65_536]?;
     let mut ram = Ram { base: 0, bytes };
-    assert_eq!(rt; ram.store(65_534, 0xB0), Ok(()));
-    assert_eq!(rt; ram.store(65_535, 0x34), Ok(()));
+    same(&rt, "its code", ram.store(65_534, 0xB0), Ok(()));
+    same(&rt, "its low byte", ram.store(65_535, 0x34), Ok(()));
     let mut after = cpu(65_534);
     let fetched = fetch(&mut BusReader::new(&ram, &[]), &after)?;
     let load = Instruction::Compute(Operation::Load, literal(false), Form::Byte);
-    assert_eq!(rt; fetched.instruction, load);
-    assert_eq!(rt;
+    same(&rt, "instruction", fetched.instruction, load);
+    same(
+        &rt,
+        "literal",
         fetched.literal,
-        Row::new([0x34, 0x12, 0, 0, 0, 0, 0, 0], 2)
+        Row::new([0x34, 0x12, 0, 0, 0, 0, 0, 0], 2),
     );
     pass(&mut after, &fetched);
-    assert_eq!(rt; after, cpu(1));
+    same(&rt, "processor", after, cpu(1));
     Ok(())
 }
 
@@ -75,16 +85,24 @@ fn refused(rt: HostRuntime) -> Result<(), Fail> {
     let bytes = vec![in rt.alloc(); 0xD6u8; 2]?;
     let mut ram = Ram { base: 0, bytes };
     let illegal = fetch(&mut BusReader::new(&ram, &[]), &cpu(1));
-    assert!(rt; illegal.is_err_and(|fault| fault == Fault::Illegal { code: 0xD6 }));
-    assert_eq!(rt; ram.store(0, 0xB2), Ok(()));
+    same(
+        &rt,
+        "illegal",
+        illegal.is_err_and(|fault| fault == Fault::Illegal { code: 0xD6 }),
+        true,
+    );
+    same(&rt, "a legal code", ram.store(0, 0xB2), Ok(()));
     let cut_off = fetch(&mut BusReader::new(&ram, &[]), &cpu(0));
     let refusal = BusRefusal::here(Cause::NoByte);
-    assert!(rt;
+    same(
+        &rt,
+        "cut off",
         cut_off.is_err_and(|fault| fault
             == Fault::Bus {
                 address: 2,
-                refusal
-            })
+                refusal,
+            }),
+        true,
     );
     Ok(())
 }
@@ -100,37 +118,48 @@ fn sheet(stained: &[u16]) -> [u8; 8] {
 
 // LDM by a literal address, indirect: its code at 16, the pointer at 32, and six bytes from 48 on. The first stained address
 // of these is told, in the order in which they are read, and no other.
+const TOLD: [(&[u16], Option<u16>); 8] = [
+    (&[], None),
+    (&[48, 32, 16], Some(16)),
+    (&[48, 32, 18], Some(18)),
+    (&[48, 33], Some(33)),
+    (&[53, 50], Some(50)),
+    (&[53], Some(53)),
+    (&[54, 47, 34, 31], None),
+    (&[19, 15, 4], None),
+];
+
+fn try_told(
+    rt: &impl Abort,
+    ram: &Ram,
+    stained: &'static [u16],
+    told: Option<u16>,
+) -> Result<(), Fail> {
+    let sheet = sheet(stained);
+    let mut reader = BusReader::new(ram, &sheet);
+    let cpu = cpu(16);
+    let fetched = fetch(&mut reader, &cpu)?;
+    let read = read_operand(
+        &mut reader,
+        &cpu,
+        literal(true),
+        Form::Multi,
+        &fetched.literal,
+    )?;
+    same(rt, stained, read.count(), 6);
+    same(rt, stained, reader.told, told);
+    Ok(())
+}
+
 #[test]
 fn told(rt: HostRuntime) -> Result<(), Fail> {
     let bytes = vec![in rt.alloc(); 0u8; 64]?;
     let mut ram = Ram { base: 0, bytes };
     for (address, byte) in [(16, 0xB9), (17, 32), (32, 48)] {
-        assert_eq!(rt; ram.store(address, byte), Ok(()));
+        same(&rt, address, ram.store(address, byte), Ok(()));
     }
-    let table: [(&[u16], Option<u16>); 8] = [
-        (&[], None),
-        (&[48, 32, 16], Some(16)),
-        (&[48, 32, 18], Some(18)),
-        (&[48, 33], Some(33)),
-        (&[53, 50], Some(50)),
-        (&[53], Some(53)),
-        (&[54, 47, 34, 31], None),
-        (&[19, 15, 4], None),
-    ];
-    for (stained, told) in table {
-        let sheet = sheet(stained);
-        let mut reader = BusReader::new(&ram, &sheet);
-        let cpu = cpu(16);
-        let fetched = fetch(&mut reader, &cpu)?;
-        let read = read_operand(
-            &mut reader,
-            &cpu,
-            literal(true),
-            Form::Multi,
-            &fetched.literal,
-        )?;
-        assert_eq!(rt; read.count(), 6);
-        assert_eq!(rt; reader.told, told);
+    for (stained, told) in TOLD {
+        try_told(&rt, &ram, stained, told)?;
     }
     Ok(())
 }

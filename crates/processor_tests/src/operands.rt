@@ -1,4 +1,5 @@
 // Where an operand in memory is, what its bytes are, and which pair is moved.
+use crate::same;
 use addressing::{base_address, move_pair, read_operand};
 use bus::{Bus, Ram};
 use byte_rows::Row;
@@ -9,13 +10,26 @@ use std::process::Abort;
 use std::test::Fail;
 
 // The byte at an address is the sum of the address's two bytes.
+fn put(rt: &impl Abort, ram: &mut Ram, address: u16) {
+    let [low, high] = address.to_le_bytes();
+    same(
+        rt,
+        address,
+        ram.store(address, low.wrapping_add(high)),
+        Ok(()),
+    );
+}
+
+fn fill(rt: &impl Abort, ram: &mut Ram) {
+    for address in 0..=65_535u16 {
+        put(rt, ram, address);
+    }
+}
+
 fn ram(rt: &(impl Abort + AllocGlobal)) -> Result<Ram, Fail> {
     let bytes = vec![in rt.alloc(); 0u8; 65_536]?;
     let mut ram = Ram { base: 0, bytes };
-    for address in 0..=65_535u16 {
-        let [low, high] = address.to_le_bytes();
-        assert_eq!(rt; ram.store(address, low.wrapping_add(high)), Ok(()));
-    }
+    fill(rt, &mut ram);
     Ok(ram)
 }
 
@@ -186,14 +200,14 @@ fn try_case(rt: &impl Abort, ram: &Ram, case: Case) -> Result<(), Fail> {
         after.set_pair(register, pair);
     }
     let at = base_address(&cpu, base, indirect, form, &literal());
-    assert_eq!(rt; at, case.at);
+    same(rt, "base address", at, case.at);
     let mode = Some(Mode::Memory { base, indirect });
     let mut reader = BusReader::new(ram, &[]);
     let operand = read_operand(&mut reader, &cpu, mode, form, &literal())?;
     let bytes = operand.bytes();
-    assert!(rt; &bytes[..operand.len()] == case.operand);
+    same(rt, "operand", &bytes[..operand.len()] == case.operand, true);
     move_pair(&mut cpu, base, indirect, form, &literal());
-    assert_eq!(rt; cpu, after);
+    same(rt, "processor", cpu, after);
     Ok(())
 }
 
@@ -206,6 +220,29 @@ fn in_memory(rt: HostRuntime) -> Result<(), Fail> {
     Ok(())
 }
 
+// The operand's mode and form, and its bytes.
+const IN_REGISTERS: [(Option<Mode>, Form, &[u8]); 4] = [
+    (Some(Mode::Register), Form::Multi, &[1, 2, 3, 4, 5, 6]),
+    (Some(Mode::Register), Form::Byte, &[1]),
+    (Some(Mode::Immediate), Form::Multi, &[0x10, 0x20]),
+    (None, Form::Multi, &[]),
+];
+
+fn try_in_registers(
+    rt: &impl Abort,
+    ram: &Ram,
+    cpu: &Cpu,
+    mode: Option<Mode>,
+    form: Form,
+    operand: &[u8],
+) -> Result<(), Fail> {
+    let mut reader = BusReader::new(ram, &[]);
+    let read = read_operand(&mut reader, cpu, mode, form, &literal())?;
+    let bytes = read.bytes();
+    same(rt, (mode, form), &bytes[..read.len()] == operand, true);
+    Ok(())
+}
+
 // From R76 on six registers are R76, R77 and R0 to R3; the data are those from R42 on, and the bytes after the code as they stand.
 #[test]
 fn in_registers(rt: HostRuntime) -> Result<(), Fail> {
@@ -214,23 +251,16 @@ fn in_registers(rt: HostRuntime) -> Result<(), Fail> {
     cpu.arp = 0o76;
     cpu.write_row(0o76, &[1, 2, 3, 4, 5, 6]);
     cpu.write_row(0o42, &[11, 12, 13, 14, 15, 16]);
-    let table: [(Option<Mode>, Form, &[u8]); 4] = [
-        (Some(Mode::Register), Form::Multi, &[1, 2, 3, 4, 5, 6]),
-        (Some(Mode::Register), Form::Byte, &[1]),
-        (Some(Mode::Immediate), Form::Multi, &[0x10, 0x20]),
-        (None, Form::Multi, &[]),
-    ];
-    for (mode, form, operand) in table {
-        let mut reader = BusReader::new(&ram, &[]);
-        let read = read_operand(&mut reader, &cpu, mode, form, &literal())?;
-        let bytes = read.bytes();
-        assert!(rt; &bytes[..read.len()] == operand);
+    for (mode, form, operand) in IN_REGISTERS {
+        try_in_registers(&rt, &ram, &cpu, mode, form, operand)?;
     }
     let data = Row::new([11, 12, 13, 14, 15, 16, 0, 0], 6);
-    assert_eq!(rt; cpu.row(cpu.drp, Form::Multi), data);
-    assert_eq!(rt;
+    same(&rt, "data", cpu.row(cpu.drp, Form::Multi), data);
+    same(
+        &rt,
+        "one byte of the data",
         cpu.row(cpu.drp, Form::Byte),
-        Row::new([11, 0, 0, 0, 0, 0, 0, 0], 1)
+        Row::new([11, 0, 0, 0, 0, 0, 0, 0], 1),
     );
     Ok(())
 }

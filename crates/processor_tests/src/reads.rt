@@ -1,4 +1,5 @@
 // Reads across address 65,535, a refused one, and the stained address told.
+use crate::same;
 use bus::{Bus, BusRefusal, Cause, Ram};
 use reading::{BusReader, Fault, is_stained};
 use std::process::Abort;
@@ -8,7 +9,7 @@ use std::test::Fail;
 fn ram(rt: &(impl Abort + AllocGlobal), size: usize) -> Result<Ram, Fail> {
     let bytes = vec![in rt.alloc(); 7u8; size]?;
     let mut ram = Ram { base: 0, bytes };
-    assert_eq!(rt; ram.store(0, 1), Ok(()));
+    same(rt, "store", ram.store(0, 1), Ok(()));
     Ok(ram)
 }
 
@@ -17,10 +18,10 @@ fn across_the_last_address(rt: HostRuntime) -> Result<(), Fail> {
     let ram = ram(&rt, 65_536)?;
     let mut reader = BusReader::new(&ram, &[]);
     let mut row = [0; 3];
-    assert_eq!(rt; reader.pair(65_535), Ok(0x0107));
-    assert_eq!(rt; reader.row(65_535, &mut row), Ok(()));
-    assert_eq!(rt; row, [7, 1, 7]);
-    assert_eq!(rt; reader.told, None);
+    same(&rt, "pair", reader.pair(65_535), Ok(0x0107));
+    same(&rt, "row", reader.row(65_535, &mut row), Ok(()));
+    same(&rt, "bytes", row, [7, 1, 7]);
+    same(&rt, "told", reader.told, None);
     Ok(())
 }
 
@@ -34,9 +35,14 @@ fn refused(rt: HostRuntime) -> Result<(), Fail> {
         address: 10,
         refusal,
     };
-    assert_eq!(rt; BusReader::new(&ram, &[]).row(8, &mut row), Err(fault));
-    assert_eq!(rt; fault.number(), 4);
-    assert_eq!(rt; row, [7, 7, 0]);
+    same(
+        &rt,
+        "refusal",
+        BusReader::new(&ram, &[]).row(8, &mut row),
+        Err(fault),
+    );
+    same(&rt, "number", fault.number(), 4);
+    same(&rt, "bytes", row, [7, 7, 0]);
     Ok(())
 }
 
@@ -51,10 +57,15 @@ fn inquired(rt: HostRuntime) -> Result<(), Fail> {
             refusal: BusRefusal::here(Cause::NoByte),
         })
     };
-    assert_eq!(rt; reader.inquire(8, 2), Ok(()));
-    assert_eq!(rt; reader.inquire(8, 3), refused(10));
-    assert_eq!(rt; reader.inquire(65_535, 2), refused(65_535));
-    assert_eq!(rt; reader.inquire(65_535, 0), Ok(()));
+    same(&rt, "8 and 9", reader.inquire(8, 2), Ok(()));
+    same(&rt, "8 to 10", reader.inquire(8, 3), refused(10));
+    same(
+        &rt,
+        "65,535 and 0",
+        reader.inquire(65_535, 2),
+        refused(65_535),
+    );
+    same(&rt, "no address", reader.inquire(65_535, 0), Ok(()));
     Ok(())
 }
 
@@ -63,14 +74,14 @@ fn inquired(rt: HostRuntime) -> Result<(), Fail> {
 fn stained(rt: HostRuntime) -> Result<(), Fail> {
     let ram = ram(&rt, 20)?;
     let sheet = [0, 0b0001_1000, 0];
-    assert!(rt; is_stained(&sheet, 11));
-    assert!(rt; !is_stained(&sheet, 10));
+    same(&rt, "stain of 11", is_stained(&sheet, 11), true);
+    same(&rt, "stain of 10", is_stained(&sheet, 10), false);
     let mut reader = BusReader::new(&ram, &sheet);
-    assert_eq!(rt; reader.byte(10), Ok(7));
-    assert_eq!(rt; reader.told, None);
-    assert_eq!(rt; reader.pair(11), Ok(0x0707));
-    assert_eq!(rt; reader.told, Some(11));
-    assert_eq!(rt; reader.byte(12), Ok(7));
-    assert_eq!(rt; reader.told, Some(11));
+    same(&rt, "byte of 10", reader.byte(10), Ok(7));
+    same(&rt, "told after 10", reader.told, None);
+    same(&rt, "pair of 11", reader.pair(11), Ok(0x0707));
+    same(&rt, "told after 11", reader.told, Some(11));
+    same(&rt, "byte of 12", reader.byte(12), Ok(7));
+    same(&rt, "told after 12", reader.told, Some(11));
     Ok(())
 }

@@ -1,4 +1,5 @@
 // How many registers an instruction works on, and rows of them across R77.
+use crate::same;
 use registers::{Cpu, Form, span};
 
 // From R42 on an instruction works on six registers, not on eight.
@@ -12,7 +13,7 @@ fn six_from_r42(rt: HostRuntime) {
         (Form::Multi, 0o31, 1),
         (Form::Byte, 0o40, 1),
     ] {
-        assert_eq!(rt; span(form, drp), registers, "{drp}");
+        same(&rt, drp, span(form, drp), registers);
     }
 }
 
@@ -20,11 +21,11 @@ fn six_from_r42(rt: HostRuntime) {
 fn a_row_across_r77(rt: HostRuntime) {
     let mut cpu = Cpu::new(0, 0);
     cpu.write_row(0o76, &[1, 2, 3, 4]);
-    assert_eq!(rt; cpu.register(0o77), 2);
-    assert_eq!(rt; cpu.register(0), 3);
-    assert_eq!(rt; cpu.pair(0o77), 0x0302);
+    same(&rt, "R77", cpu.register(0o77), 2);
+    same(&rt, "R0", cpu.register(0), 3);
+    same(&rt, "pair", cpu.pair(0o77), 0x0302);
     cpu.set_pair(0o77, 0x0506);
     let mut row = [0; 4];
     cpu.read_row(0o76, &mut row);
-    assert_eq!(rt; row, [1, 6, 5, 4]);
+    same(&rt, "row", row, [1, 6, 5, 4]);
 }

@@ -5,3 +5,19 @@
 mod listed;
 #[cfg(test)]
 mod punched;
+
+#[cfg(test)]
+use std::fmt::Debug;
+#[cfg(test)]
+use std::process::Abort;
+
+// That a value is the wanted one, in this case of a test.
+#[cfg(test)]
+fn same<C: Debug + Copy, T: PartialEq + Debug + Copy>(
+    rt: &impl Abort,
+    case: C,
+    found: T,
+    wanted: T,
+) {
+    assert_eq!(rt; found, wanted, "{case:?}");
+}

@@ -1,4 +1,5 @@
 // What tapes are listed as.
+use crate::same;
 use std::test::Fail;
 use tape_text::{list, punch};
 
@@ -37,9 +38,9 @@ fn tapes(rt: HostRuntime) -> Result<(), Fail> {
         ),
     ] {
         let listed = list(rt.alloc(), tape)?;
-        assert_eq!(rt; listed.as_slice(), text);
+        same(&rt, text, listed.as_slice(), text);
         let punched = punch(rt.alloc(), &listed)?;
-        assert_eq!(rt; punched.as_slice(), tape);
+        same(&rt, tape, punched.as_slice(), tape);
     }
     Ok(())
 }

@@ -1,4 +1,5 @@
 // What texts are punched to, and where one is refused.
+use crate::same;
 use std::test::Fail;
 use tape_text::{Expected, PunchError, TextFault, punch};
 
@@ -19,7 +20,7 @@ fn texts(rt: HostRuntime) -> Result<(), Fail> {
         (b"XY 0a\nLD 00\nEN\nGO\nEN 45", b"XY\nLD\x00ENGOENE"),
     ] {
         let punched = punch(rt.alloc(), text)?;
-        assert_eq!(rt; punched.as_slice(), tape);
+        same(&rt, text, punched.as_slice(), tape);
     }
     Ok(())
 }
@@ -48,7 +49,7 @@ fn refused_texts(rt: HostRuntime) {
             expected,
         };
         let punched = punch(rt.alloc(), text);
-        assert_eq!(rt; punched.err(), Some(PunchError::Text(fault)));
+        same(&rt, text, punched.err(), Some(PunchError::Text(fault)));
     }
 }
 
@@ -71,7 +72,7 @@ fn messages(rt: HostRuntime) -> Result<(), Fail> {
             expected,
         });
         let printed = format!(in rt.alloc(); "{error}")?;
-        assert_eq!(rt; printed.as_str(), message);
+        same(&rt, message, printed.as_str(), message);
     }
     Ok(())
 }

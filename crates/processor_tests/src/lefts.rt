@@ -1,4 +1,5 @@
 // Parts of the processor that instructions leave as they were.
+use crate::same;
 use decode::{Instruction, decode};
 use laws::{Part, leaves};
 use registers::Cpu;
@@ -39,7 +40,7 @@ fn registers(rt: HostRuntime) {
     for (code, named) in table {
         for k in 0..64 {
             let changes = k == 4 || k == 5 || named.contains(&k);
-            assert_eq!(rt; all_leave(code, Part::Register(k)), !changes);
+            same(&rt, (code, k), all_leave(code, Part::Register(k)), !changes);
         }
     }
 }
@@ -49,18 +50,32 @@ fn registers(rt: HostRuntime) {
 fn status(rt: HostRuntime) {
     for code in 0..=255u8 {
         let pad = code == 0x9F;
-        assert_eq!(rt; all_leave(code, Part::Arp), !(code < 0x40 || pad));
-        assert_eq!(rt;
-            all_leave(code, Part::Drp),
-            !(matches!(code, 0x40..=0x7F) || pad)
+        same(
+            &rt,
+            (code, "ARP"),
+            all_leave(code, Part::Arp),
+            !(code < 0x40 || pad),
         );
-        assert_eq!(rt;
+        same(
+            &rt,
+            (code, "DRP"),
+            all_leave(code, Part::Drp),
+            !(matches!(code, 0x40..=0x7F) || pad),
+        );
+        same(
+            &rt,
+            (code, "mode"),
             all_leave(code, Part::Mode),
-            !matches!(code, 0x98 | 0x99 | 0x9F)
+            !matches!(code, 0x98 | 0x99 | 0x9F),
         );
         let jsb = matches!(code, 0xC6 | 0xCE | 0xD6 | 0xDE);
         let seen = matches!(code, 0x80..=0x97 | 0xA0..=0xEF) && !jsb;
-        assert_eq!(rt; all_leave(code, Part::Conditions), !(seen || pad));
+        same(
+            &rt,
+            (code, "conditions"),
+            all_leave(code, Part::Conditions),
+            !(seen || pad),
+        );
     }
 }
 
@@ -69,10 +84,10 @@ fn status(rt: HostRuntime) {
 fn a_decimal_shift(rt: HostRuntime) {
     let mut cpu = cpu();
     if let Some(shift) = decode(0x80) {
-        assert!(rt; leaves(shift, &cpu, Part::E));
+        same(&rt, "in binary mode", leaves(shift, &cpu, Part::E), true);
         cpu.status.dcm = true;
-        assert!(rt; !leaves(shift, &cpu, Part::E));
+        same(&rt, "in decimal mode", leaves(shift, &cpu, Part::E), false);
     }
-    assert!(rt; all_leave(0xC2, Part::E));
-    assert!(rt; !all_leave(0x9B, Part::E));
+    same(&rt, "ADB", all_leave(0xC2, Part::E), true);
+    same(&rt, "ICE", all_leave(0x9B, Part::E), false);
 }

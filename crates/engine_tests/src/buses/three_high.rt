@@ -1,5 +1,6 @@
 // Three layers, of every kind over every kind, over RAM, ROM and the line board.
-use crate::{check, refused};
+use crate::buses::{check, refused};
+use crate::same;
 use bus::{Bus, BusRefusal, Cause, LineBoard, Ram, Rom, Trunk};
 use layers::{Guard, Shadow, Split};
 use piles::Pile;
@@ -89,14 +90,18 @@ fn store_by(layers: &[Layer], address: u16, cause: Option<Cause>) -> Result<(), 
     cause.map_or(Ok(()), |cause| Err(refused(cause, passed)))
 }
 
+fn over<B: Bottom>(rt: &impl AllocGlobal, layer: Layer, below: Pile<B>) -> Result<Pile<B>, Fail> {
+    Ok(match layer {
+        Layer::Guard => below.guarded(rt.alloc(), 504, 505)?,
+        Layer::Split => below.beside(rt.alloc(), 516, Pile::new(B::new(rt)?))?,
+        Layer::Shadow => below.shadowed(rt.alloc(), 1)?,
+    })
+}
+
 fn pile<B: Bottom>(rt: &impl AllocGlobal, layers: &[Layer]) -> Result<Pile<B>, Fail> {
     let mut pile = Pile::new(B::new(rt)?);
     for layer in layers.iter().rev() {
-        pile = match layer {
-            Layer::Guard => pile.guarded(rt.alloc(), 504, 505)?,
-            Layer::Split => pile.beside(rt.alloc(), 516, Pile::new(B::new(rt)?))?,
-            Layer::Shadow => pile.shadowed(rt.alloc(), 1)?,
-        };
+        pile = over(rt, *layer, pile)?;
     }
     Ok(pile)
 }
@@ -158,6 +163,6 @@ fn by_types(rt: HostRuntime) -> Result<(), Fail> {
         check(&rt, &mut bus, address, read, store);
     }
     let ram = bus.below.low.into_below();
-    assert_eq!(rt; ram.read(506), Ok(b'2'));
+    same(&rt, 506, ram.read(506), Ok(b'2'));
     Ok(())
 }

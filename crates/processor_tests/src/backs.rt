@@ -1,4 +1,5 @@
 // PAD after SAD, RTN after JSB, and the settings worked out by hand.
+use crate::same;
 use decode::{Base, Control, Instruction};
 use laws::{given_back, worked_settings};
 use registers::{Cpu, Status};
@@ -31,7 +32,7 @@ fn status_and_pointers(rt: HostRuntime) {
     wanted.arp = 0;
     wanted.drp = 0o40;
     wanted.status = cpu.status;
-    assert_eq!(rt; back, Some(wanted));
+    same(&rt, "PAD after SAD", back, Some(wanted));
 }
 
 #[test]
@@ -40,10 +41,12 @@ fn program_counter(rt: HostRuntime) {
     let back = given_back(Instruction::Call(Base::Literal), &cpu, &later(0x0402));
     let mut wanted = later(0x0400);
     wanted.set_pair(4, 0x0107);
-    assert_eq!(rt; back, Some(wanted));
-    assert_eq!(rt;
+    same(&rt, "RTN after JSB", back, Some(wanted));
+    same(
+        &rt,
+        "RTN gives nothing back",
         given_back(Instruction::Control(Control::Return), &cpu, &cpu),
-        None
+        None,
     );
 }
 
@@ -52,9 +55,14 @@ fn by_hand(rt: HostRuntime) {
     let mut cpu = Cpu::new(0x0107, 0x0400);
     cpu.write_row(0o42, &[0x12, 0x34]);
     let worked = worked_settings(&cpu);
-    assert_eq!(rt; worked.spans, [6, 2, 1, 1]);
-    assert_eq!(rt; worked.jumps, [256, 385]);
-    assert_eq!(rt; worked.loaded.pair(0o30), 0x3412);
-    assert_eq!(rt; worked.loaded.pc(), 0x0108);
-    assert_eq!(rt; worked.loaded.pair(0o42), 0x3412);
+    same(&rt, "spans", worked.spans, [6, 2, 1, 1]);
+    same(&rt, "jumps", worked.jumps, [256, 385]);
+    same(&rt, "what is loaded", worked.loaded.pair(0o30), 0x3412);
+    same(
+        &rt,
+        "the program counter after it",
+        worked.loaded.pc(),
+        0x0108,
+    );
+    same(&rt, "the data", worked.loaded.pair(0o42), 0x3412);
 }

@@ -1,4 +1,5 @@
 // Pointers, modes, E, saves, subroutines and jumps.
+use crate::same;
 use crate::setup::{carry, processor, ram};
 use byte_rows::Row;
 use registers::Status;
@@ -33,7 +34,7 @@ fn try_of_one_byte(
     want.drp = drp % 64;
     want.status.dcm = dcm;
     want.e = e % 16;
-    assert_eq!(rt; (cpu, done.length), (want, 1), "code {code}");
+    same(rt, code, (cpu, done.length), (want, 1));
     Ok(())
 }
 
@@ -62,17 +63,22 @@ fn saves(rt: HostRuntime) -> Result<(), Fail> {
     let done = carry(&rt, &ram, &mut cpu);
     want.set_pair(4, 0x101);
     want.set_pair(6, 0x183);
-    assert_eq!(rt; cpu, want);
-    assert_eq!(rt; done.at, 0x180);
-    assert_eq!(rt; done.bytes, Row::new([0x4A, 0x9C, 0x0A, 0, 0, 0, 0, 0], 3));
-    assert_eq!(rt; ram.load(0x180, &[0x4A, 0x9C, 0xFA]), Ok(()));
+    same(&rt, "SAD", cpu, want);
+    same(&rt, "where SAD stores", done.at, 0x180);
+    same(
+        &rt,
+        "what SAD stores",
+        done.bytes,
+        Row::new([0x4A, 0x9C, 0x0A, 0, 0, 0, 0, 0], 3),
+    );
+    same(&rt, "load", ram.load(0x180, &[0x4A, 0x9C, 0xFA]), Ok(()));
     cpu.arp = 0;
     cpu.drp = 0;
     cpu.status = Status::clear();
     let _ = carry(&rt, &ram, &mut cpu);
     want.set_pair(4, 0x102);
     want.set_pair(6, 0x180);
-    assert_eq!(rt; cpu, want);
+    same(&rt, "PAD", cpu, want);
     Ok(())
 }
 
@@ -89,21 +95,22 @@ const SUBROUTINES: [Subroutine; 3] = [
 fn try_subroutine(rt: &(impl Abort + AllocGlobal), case: &Subroutine) -> Result<(), Fail> {
     let (code, pc, r2, return_pointer, stored) = *case;
     let mut ram = ram(rt, code)?;
-    assert_eq!(rt; ram.load(0x17E, &[0x78, 0x56]), Ok(()));
+    same(rt, "load", ram.load(0x17E, &[0x78, 0x56]), Ok(()));
     let mut cpu = processor(0o20, 0o30);
     let mut want = cpu;
     let done = carry(rt, &ram, &mut cpu);
     want.set_pair(4, pc);
     want.set_pair(2, r2);
     want.set_pair(6, return_pointer);
-    assert_eq!(rt; cpu, want, "code {code:?}");
+    same(rt, code, cpu, want);
     let returns = stored.is_empty();
     let length = if returns { 1 } else { 3 };
     let bytes = done.bytes.bytes();
-    assert_eq!(rt;
+    same(
+        rt,
+        code,
         (&bytes[..done.bytes.len()], done.length, done.returns),
         (stored, length, returns),
-        "code {code:?}"
     );
     Ok(())
 }
@@ -127,7 +134,7 @@ fn after_jump(
     cpu.status = status;
     cpu.e = e % 16;
     let done = carry(rt, &ram(rt, [code, offset, 0])?, &mut cpu);
-    assert_eq!(rt; done.length, 2);
+    same(rt, code, done.length, 2);
     Ok(cpu.pc())
 }
 
@@ -136,7 +143,7 @@ fn after_jump(
 fn jumps_far(rt: HostRuntime) -> Result<(), Fail> {
     let clear = Status::clear();
     for (offset, pc) in [(0xFE, 256), (0x7F, 385), (0x80, 130), (0, 258)] {
-        assert_eq!(rt; after_jump(&rt, 0xF0, offset, clear, 0)?, pc);
+        same(&rt, offset, after_jump(&rt, 0xF0, offset, clear, 0)?, pc);
     }
     Ok(())
 }
@@ -169,7 +176,7 @@ fn try_jump(
     taken: bool,
 ) -> Result<(), Fail> {
     let pc = if taken { 0x107 } else { 0x102 };
-    assert_eq!(rt; after_jump(rt, code, 5, status, e)?, pc, "code {code}");
+    same(rt, code, after_jump(rt, code, 5, status, e)?, pc);
     Ok(())
 }
 

@@ -1,4 +1,5 @@
 // Each fault of a step or a ring, with its number and detail.
+use crate::same;
 use alu::NotDecimal;
 use bus::{BusRefusal, Cause};
 use noninterference::{Description, Detail, StepFault};
@@ -33,7 +34,12 @@ fn numbers_and_details(rt: HostRuntime) {
         ),
     ];
     for (fault, number, detail) in cases {
-        assert_eq!(rt; fault.describe(), Description { number, detail });
-        assert_eq!(rt; fault.number(), number);
+        same(
+            &rt,
+            number,
+            fault.describe(),
+            Description { number, detail },
+        );
+        same(&rt, number, fault.number(), number);
     }
 }

@@ -1,5 +1,6 @@
 // Each cause through 300 layers: the depth counts them and stops at 255.
-use crate::{check, ram, refused};
+use crate::buses::{check, ram, refused};
+use crate::same;
 use bus::{Bus, Cause, Rom};
 use piles::Pile;
 use std::process::Abort;
@@ -20,7 +21,7 @@ fn at_each_depth<B: Bus + Drop>(
         let refusal = refused(cause, depth);
         let read = read.map_err(|cause| refused(cause, depth));
         check(rt, &mut pile, address, read, Err(refusal));
-        assert_eq!(rt; refusal.detail(address), (address, depth));
+        same(rt, layers, refusal.detail(address), (address, depth));
         pile = pile.guarded(rt.alloc(), 1, 0)?;
     }
     Ok(())
@@ -50,6 +51,6 @@ fn numbers(rt: HostRuntime) {
         (Cause::Guarded, 6),
         (Cause::OutsideShadow, 7),
     ] {
-        assert_eq!(rt; refused(cause, 3).number(), number);
+        same(&rt, cause, refused(cause, 3).number(), number);
     }
 }

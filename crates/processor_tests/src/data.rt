@@ -1,4 +1,5 @@
 // Loads, operations and stores.
+use crate::same;
 use crate::setup::{carry, processor, ram};
 use registers::Cpu;
 use std::process::Abort;
@@ -127,15 +128,12 @@ fn try_of_the_data(rt: &(impl Abort + AllocGlobal), case: &OfTheData) -> Result<
     let done = carry(rt, &ram, &mut cpu);
     let mut want = changed(before, length, pair, registers);
     want.status = cpu.status;
-    assert_eq!(rt;
-        (cpu, u8::from(cpu.status)),
-        (want, status),
-        "code {code:?}"
-    );
-    assert_eq!(rt;
+    same(rt, code, (cpu, u8::from(cpu.status)), (want, status));
+    same(
+        rt,
+        code,
         (done.length, done.bytes.len(), done.returns),
         (length, 0, false),
-        "code {code:?}"
     );
     Ok(())
 }
@@ -184,12 +182,13 @@ fn try_to_memory(rt: &(impl Abort + AllocGlobal), case: &ToMemory) -> Result<(),
     let done = carry(rt, &ram, &mut cpu);
     let mut want = changed(before, length, pair, (0o40, [0, 0]));
     want.status = cpu.status;
-    assert_eq!(rt; cpu, want, "code {code:?}");
+    same(rt, code, cpu, want);
     let stored = done.bytes.bytes();
-    assert_eq!(rt;
+    same(
+        rt,
+        code,
         (done.at, &stored[..done.bytes.len()], done.length),
         (at, bytes, length),
-        "code {code:?}"
     );
     Ok(())
 }

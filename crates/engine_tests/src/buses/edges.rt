@@ -1,5 +1,6 @@
 // The edges of each layer.
-use crate::{check, ram, refused};
+use crate::buses::{check, ram, refused};
+use crate::same;
 use bus::{Bus, BusRefusal, Cause};
 use layers::{Guard, Shadow, Split};
 use std::test::Fail;
@@ -77,7 +78,7 @@ fn splits(rt: HostRuntime) -> Result<(), Fail> {
         } else {
             split.low.read(address)
         };
-        assert_eq!(rt; other, Ok(3 - byte), "other at {address}");
+        same(&rt, ("other", address), other, Ok(3 - byte));
     }
     Ok(())
 }
@@ -105,7 +106,7 @@ fn shadows(rt: HostRuntime) -> Result<(), Fail> {
         let mut shadow = Shadow::new(page, ram(&rt, 0, 65_536, 7)?);
         check(&rt, &mut shadow, address, Ok(7), store);
         let below = shadow.into_below();
-        assert_eq!(rt; below.read(address), Ok(7), "below at {address}");
+        same(&rt, ("below", address), below.read(address), Ok(7));
     }
     Ok(())
 }

@@ -1,5 +1,6 @@
 // Each operation on random rows.
-use crate::case::{Base, Case};
+use crate::random_case::{Base, Case};
+use crate::same;
 use alu::{Flags, Operation, Worked, operate};
 use byte_rows::Row;
 use counting::binary::Binary;
@@ -139,18 +140,14 @@ fn check(rt: &impl Abort, case: &Case, op: Operation, left: Left) -> Result<(), 
         case.operand(),
     )
     .map_err(|_| Fail::new("a byte was not accepted"))?;
-    assert_eq!(rt;
-        left.base.number(after.data()),
-        left.number,
-        "{op:?} of {case:?}"
-    );
+    same(rt, (op, case), left.base.number(after.data()), left.number);
     let status = seen(case, Base::Binary.number(after.data()), left);
-    assert_eq!(rt; told, Flags { status, e: left.e }, "{op:?} of {case:?}");
+    same(rt, (op, case), told, Flags { status, e: left.e });
     let worked = Worked {
         row: Row::new(after.data, case.span),
         flags: told,
     };
-    assert_eq!(rt; case.operate_row(op), Ok(worked), "{op:?} of {case:?}");
+    same(rt, (op, case), case.operate_row(op), Ok(worked));
     Ok(())
 }
 
@@ -226,12 +223,8 @@ fn chains(rt: &impl Abort, case: &Case) {
             Base::Binary => chain::<Binary>(link, row, operand, case.cy),
             Base::Decimal => chain::<Decimal>(link, row, operand, case.cy),
         };
-        assert_eq!(rt;
-            case.base.number(after.data()),
-            number,
-            "{link:?} of {case:?}"
-        );
-        assert_eq!(rt; carried, out, "{link:?} of {case:?}");
+        same(rt, (link, case), case.base.number(after.data()), number);
+        same(rt, (link, case), carried, out);
     }
 }
 

@@ -1,4 +1,5 @@
 // What the instructions work on.
+use crate::same;
 use bus::Ram;
 use execute::{Executed, carry_out};
 use reading::BusReader;
@@ -11,9 +12,9 @@ pub fn ram(rt: &(impl Abort + AllocGlobal), code: [u8; 3]) -> Result<Ram, Fail> 
     let bytes = vec![in rt.alloc(); 0u8; 512]?;
     let mut ram = Ram { base: 0, bytes };
     let data = [0x11, 0x22, 0x33, 0x44, 0x55, 0x66, 0x77, 0x88];
-    assert_eq!(rt; ram.load(0x40, &data), Ok(()));
-    assert_eq!(rt; ram.load(0x50, &[0x40]), Ok(()));
-    assert_eq!(rt; ram.load(0x100, &code), Ok(()));
+    same(rt, "bytes", ram.load(0x40, &data), Ok(()));
+    same(rt, "pointer", ram.load(0x50, &[0x40]), Ok(()));
+    same(rt, "code", ram.load(0x100, &code), Ok(()));
     Ok(ram)
 }
 

@@ -1,5 +1,6 @@
 // The first and last address of each kind of bus, and one past each end.
-use crate::{check, ram, refused};
+use crate::buses::{check, ram, refused};
+use crate::same;
 use bus::{Bus, BusRefusal, Cause, LineBoard, Ram, Rom, Trunk};
 use byte_rows::PastEnd;
 use std::process::Abort;
@@ -66,24 +67,34 @@ fn none_and_all(rt: HostRuntime) -> Result<(), Fail> {
 #[test]
 fn loads(rt: HostRuntime) -> Result<(), Fail> {
     let mut ram = ram(&rt, 65530, 10, 7)?;
-    assert_eq!(rt; ram.load(65529, b"a"), Err(PastEnd));
-    assert_eq!(rt; ram.load(65534, b"abc"), Err(PastEnd));
-    assert_eq!(rt; ram.read(65534), Ok(7));
-    assert_eq!(rt; ram.load(65534, b"ab"), Ok(()));
-    assert_eq!(rt; ram.read(65533), Ok(7));
-    assert_eq!(rt; ram.read(65535), Ok(b'b'));
+    same(&rt, "below", ram.load(65529, b"a"), Err(PastEnd));
+    same(&rt, "past the end", ram.load(65534, b"abc"), Err(PastEnd));
+    same(&rt, "as before", ram.read(65534), Ok(7));
+    same(&rt, "whole", ram.load(65534, b"ab"), Ok(()));
+    same(&rt, "before it", ram.read(65533), Ok(7));
+    same(&rt, "its last byte", ram.read(65535), Ok(b'b'));
     Ok(())
 }
 
 #[test]
 fn trunks(rt: HostRuntime) {
     let mut board = LineBoard::new(32768, [Trunk::from(0); 16]);
-    assert_eq!(rt; board.store(32768, 0x3A), Ok(()));
-    assert_eq!(rt; board.trunk(0), Trunk::new(3, 10));
-    assert_eq!(rt; board.rewrite(15, Trunk::from(0xF1)), Some(Trunk::from(0)));
-    assert_eq!(rt; board.read(32783), Ok(0xF1));
-    assert_eq!(rt; board.trunk(16), None);
-    assert_eq!(rt; board.rewrite(16, Trunk::from(1)), None);
-    assert_eq!(rt; Trunk::new(16, 0), None);
-    assert_eq!(rt; Trunk::new(0, 16), None);
+    same(&rt, "store", board.store(32768, 0x3A), Ok(()));
+    same(&rt, "stored", board.trunk(0), Trunk::new(3, 10));
+    same(
+        &rt,
+        "rewritten",
+        board.rewrite(15, Trunk::from(0xF1)),
+        Some(Trunk::from(0)),
+    );
+    same(&rt, "read", board.read(32783), Ok(0xF1));
+    same(&rt, "no trunk", board.trunk(16), None);
+    same(
+        &rt,
+        "none rewritten",
+        board.rewrite(16, Trunk::from(1)),
+        None,
+    );
+    same(&rt, "no such class", Trunk::new(16, 0), None);
+    same(&rt, "no such party", Trunk::new(0, 16), None);
 }

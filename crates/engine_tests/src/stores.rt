@@ -1,4 +1,5 @@
 // Bytes stored upward, with the stains of their addresses.
+use crate::same;
 use bus::{Bus, BusRefusal, Cause, Ram};
 use reading::is_stained;
 use stains::make_stores;
@@ -25,8 +26,8 @@ fn upward_across_the_last_address(rt: HostRuntime) -> Result<(), Fail> {
         (2, 0, false),
     ];
     for (address, byte, stain) in cases {
-        assert_eq!(rt; ram.read(address), Ok(byte));
-        assert_eq!(rt; is_stained(&sheet, address), stain);
+        same(&rt, address, ram.read(address), Ok(byte));
+        same(&rt, address, is_stained(&sheet, address), stain);
     }
     Ok(())
 }
@@ -44,8 +45,8 @@ fn clears_its_own(rt: HostRuntime) -> Result<(), Fail> {
         (9, 0, true),
     ];
     for (address, byte, stain) in cases {
-        assert_eq!(rt; ram.read(address), Ok(byte));
-        assert_eq!(rt; is_stained(&sheet, address), stain);
+        same(&rt, address, ram.read(address), Ok(byte));
+        same(&rt, address, is_stained(&sheet, address), stain);
     }
     Ok(())
 }
@@ -56,9 +57,14 @@ fn refused_stores_mark_nothing(rt: HostRuntime) -> Result<(), Fail> {
     let mut ram = ram(&rt, 10)?;
     let mut sheet = [0u8; 8192];
     make_stores(&mut ram, &mut sheet, true, 9, &[5, 6]);
-    assert_eq!(rt; ram.read(9), Ok(5));
-    assert_eq!(rt; ram.read(10), Err(BusRefusal::here(Cause::NoByte)));
-    assert!(rt; is_stained(&sheet, 9));
-    assert!(rt; !is_stained(&sheet, 10));
+    same(&rt, "the byte that is taken", ram.read(9), Ok(5));
+    same(
+        &rt,
+        "the byte that is refused",
+        ram.read(10),
+        Err(BusRefusal::here(Cause::NoByte)),
+    );
+    same(&rt, "its stain", is_stained(&sheet, 9), true);
+    same(&rt, "no stain", is_stained(&sheet, 10), false);
     Ok(())
 }

@@ -1,4 +1,5 @@
 // One address's stain, set and cleared.
+use crate::same;
 use reading::is_stained;
 use stains::mark;
 use std::process::Abort;
@@ -20,18 +21,18 @@ fn stained_in(sheet: &[u8; 8192]) -> usize {
 fn try_case(rt: &impl Abort, case: &Case) {
     let mut sheet = [0u8; 8192];
     mark(&mut sheet, true, case.address);
-    assert_eq!(rt; sheet.get(case.byte), Some(&case.bit));
-    assert!(rt; is_stained(&sheet, case.address));
-    assert_eq!(rt; stained_in(&sheet), 1);
+    same(rt, case.address, sheet.get(case.byte), Some(&case.bit));
+    same(rt, case.address, is_stained(&sheet, case.address), true);
+    same(rt, case.address, stained_in(&sheet), 1);
     mark(&mut sheet, false, case.address);
-    assert_eq!(rt; stained_in(&sheet), 0);
+    same(rt, case.address, stained_in(&sheet), 0);
 
     let mut full = [255u8; 8192];
     mark(&mut full, false, case.address);
-    assert!(rt; !is_stained(&full, case.address));
-    assert_eq!(rt; stained_in(&full), 65_535);
+    same(rt, case.address, is_stained(&full, case.address), false);
+    same(rt, case.address, stained_in(&full), 65_535);
     mark(&mut full, true, case.address);
-    assert_eq!(rt; stained_in(&full), 65_536);
+    same(rt, case.address, stained_in(&full), 65_536);
 }
 
 #[test]
@@ -68,10 +69,10 @@ fn set_and_cleared(rt: HostRuntime) {
 fn short_sheet(rt: HostRuntime) {
     let mut sheet = [0u8; 1];
     mark(&mut sheet, true, 8);
-    assert_eq!(rt; sheet, [0]);
+    same(&rt, "past its end", sheet, [0]);
     mark(&mut sheet, true, 7);
-    assert_eq!(rt; sheet, [128]);
+    same(&rt, "its last bit", sheet, [128]);
     let mut none = [0u8; 0];
     mark(&mut none, true, 0);
-    assert!(rt; !is_stained(&none, 0));
+    same(&rt, "an empty sheet", is_stained(&none, 0), false);
 }

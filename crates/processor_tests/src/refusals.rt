@@ -1,4 +1,5 @@
 // Refused instructions leave the processor as it was, with its program counter.
+use crate::same;
 use crate::setup::processor;
 use alu::NotDecimal;
 use bus::{Bus, BusRefusal, Cause, Rom};
@@ -11,7 +12,7 @@ use std::process::Abort;
 fn refused<B: Bus>(rt: &impl Abort, bus: &B, before: Cpu) -> Option<Fault> {
     let mut cpu = before;
     let fault = carry_out(&mut BusReader::new(bus, &[]), &mut cpu).err()?;
-    assert_eq!(rt; cpu, before);
+    same(rt, "as it was", cpu, before);
     Some(fault)
 }
 
@@ -45,7 +46,7 @@ fn by_what_is_below(rt: HostRuntime) {
     ];
     for (bytes, address, cause) in table {
         let fault = refused(&rt, &rom(bytes), processor(0o20, 0o30));
-        assert_eq!(rt; fault, by_bus(address, cause, 0), "code {bytes:?}");
+        same(&rt, bytes, fault, by_bus(address, cause, 0));
     }
 }
 
@@ -59,29 +60,43 @@ fn by_a_layer(rt: HostRuntime) {
         last: 0x102,
         below: Shadow::new(1, rom(&bytes)),
     };
-    assert_eq!(rt; refused(&rt, &guard, cpu), by_bus(0x102, Cause::Guarded, 0));
+    same(
+        &rt,
+        "guard",
+        refused(&rt, &guard, cpu),
+        by_bus(0x102, Cause::Guarded, 0),
+    );
     let shadow = Shadow::new(0, rom(&bytes));
-    assert_eq!(rt;
+    same(
+        &rt,
+        "shadow",
         refused(&rt, &shadow, cpu),
-        by_bus(0x101, Cause::OutsideShadow, 0)
+        by_bus(0x101, Cause::OutsideShadow, 0),
     );
     let open = Guard {
         first: 1,
         last: 0,
         below: shadow,
     };
-    assert_eq!(rt;
+    same(
+        &rt,
+        "shadow below a guard",
         refused(&rt, &open, cpu),
-        by_bus(0x101, Cause::OutsideShadow, 1)
+        by_bus(0x101, Cause::OutsideShadow, 1),
     );
-    assert_eq!(rt; refused(&rt, &Shadow::new(1, rom(&bytes)), cpu), None);
+    same(
+        &rt,
+        "within the shadow's page",
+        refused(&rt, &Shadow::new(1, rom(&bytes)), cpu),
+        None,
+    );
 }
 
 #[test]
 fn illegal(rt: HostRuntime) {
     for code in [0xD6, 0xDE] {
         let fault = refused(&rt, &rom(&[code]), processor(0o20, 0o30));
-        assert_eq!(rt; fault, Some(Fault::Illegal { code }));
+        same(&rt, code, fault, Some(Fault::Illegal { code }));
     }
 }
 
@@ -103,6 +118,6 @@ fn not_decimal(rt: HostRuntime) {
         cpu.write_row(0o30, &row);
         cpu.write_row(0o32, &operand);
         let fault = index.map(|index| Fault::NotDecimal(NotDecimal { index }));
-        assert_eq!(rt; refused(&rt, &rom(&[code]), cpu), fault, "code {code}");
+        same(&rt, code, refused(&rt, &rom(&[code]), cpu), fault);
     }
 }
