@@ -7,7 +7,6 @@ ghost use Rattle.addressing.specs.Addresses.{literal_pair, distance_of, base_of,
 
 use bus::Bus;
 use byte_rows::Row;
-use counting::byte_at;
 use decode::{Base, Form};
 use reading::{BusReader, Fault};
 use registers::{Cpu, span};

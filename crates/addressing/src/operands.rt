@@ -1,11 +1,10 @@
 // Reads the data and the operand of an instruction.
-ghost use Rattle.std.specs.Prelude.{◌≡◌, ◌≤◌};
+ghost use Rattle.std.specs.Prelude.{◌≤◌};
 ghost use Rattle.byte_rows.specs.Short.{bytes_of};
 ghost use Rattle.registers.specs.Model.{state_of};
-ghost use Rattle.registers.specs.Rows.{row_at};
 ghost use Rattle.reading.specs.Readings.{ReadsBy, row_tree};
 ghost use Rattle.reading.specs.Trees.{map_ok};
-ghost use Rattle.addressing.specs.Operands.{data_of, memory_tree, operand_tree};
+ghost use Rattle.addressing.specs.Operands.{memory_tree, operand_tree};
 
 use crate::addresses::{address_of, base_address};
 use bus::Bus;

@@ -1,10 +1,10 @@
 // What calls say, in plain numbers: enums and options do not cross to C.
 ghost use Rattle.std.specs.Prelude.{◌≡◌};
-ghost use Rattle.board.specs.Answers.{said_of, ran_of, letter_byte, read_out_of, refused, answered, silent};
+ghost use Rattle.board.specs.Answers.{said_of, ran_of, read_out_of, refused, answered, silent};
 
 use engine::Report;
 use installation::CallFault;
-use noninterference::{Answer, Description, Detail, Letter, VisitEnd};
+use noninterference::{Answer, Description, Detail, VisitEnd};
 
 // A step's answer, or a refusal.
 #[repr(C)]
@@ -117,18 +117,6 @@ impl From<Result<(), CallFault>> for Said {
     }
 }
 
-// A letter as it is printed.
-fn letter_byte(letter: Letter) -> u8
-    ensures { result ≡ letter_byte letter }
-{
-    match letter {
-        Letter::Done => b'S',
-        Letter::Refused => b'R',
-        Letter::Told => b'T',
-        Letter::Marred => b'M',
-    }
-}
-
 impl From<Result<Report, CallFault>> for Ran {
     ghost from_gives = { λ outcome r. r ≡ ran_of outcome };
 
@@ -141,7 +129,7 @@ impl From<Result<Report, CallFault>> for Ran {
                     None => Said::default(),
                 },
                 done: report.done,
-                letter: letter_byte(report.letter),
+                letter: report.letter.byte(),
             },
             Err(fault) => Ran {
                 last: Said::refused(fault),

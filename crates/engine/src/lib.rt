@@ -3,7 +3,9 @@
 
 mod cold;
 mod live;
+mod sheet;
 
 pub use cold::{Cold, LoadFault};
 pub use live::running::Report;
 pub use live::{Live, ReadOut, SHEET_SIZE};
+pub use sheet::clean_sheet;

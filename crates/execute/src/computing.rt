@@ -2,7 +2,7 @@
 ghost use Rattle.std.specs.Prelude.{◌≡◌};
 ghost use Rattle.byte_rows.specs.Short.{bytes_of};
 ghost use Rattle.registers.specs.Model.{state_of};
-ghost use Rattle.alu.specs.Operations.{done, operated, left, row_after};
+ghost use Rattle.alu.specs.Operations.{done};
 ghost use Rattle.reading.specs.Readings.{ReadsBy};
 ghost use Rattle.reading.specs.Trees.{map_ok};
 ghost use Rattle.execute.specs.Instructions.{keeps as keeps_row, moved_by, with_done, computed, compute_tree};

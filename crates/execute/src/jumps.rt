@@ -6,7 +6,6 @@ ghost use Rattle.execute.specs.Conditions.{met, jumped};
 ghost use Rattle.execute.specs.Instructions.{jumped_to};
 
 use byte_rows::Row;
-use counting::byte_at;
 use decode::Condition;
 use registers::{Cpu, Status};
 

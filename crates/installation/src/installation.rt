@@ -1,12 +1,12 @@
 // The calls.
-ghost use Rattle.std.specs.Prelude.{◌≡◌, length, IfOk};
+ghost use Rattle.std.specs.Prelude.{◌≡◌, IfOk};
 ghost use Rattle.stains.specs.Marks.{blank as unstained};
 ghost use Rattle.memory.specs.Blank.{blank};
 ghost use Rattle.installation.specs.Worlds.{world_of, cold};
 ghost use Rattle.installation.specs.Calls.{pc_call, load_call, go_call, step_call, run_call, ring_call, end_call};
 
 use crate::fault::CallFault;
-use engine::{Cold, Live, ReadOut, Report, SHEET_SIZE};
+use engine::{Cold, Live, ReadOut, Report, SHEET_SIZE, clean_sheet};
 use memory::Memory;
 use noninterference::Answer;
 use std::alloc::{AllocError, Global};
@@ -117,11 +117,4 @@ impl Installation {
             }
         }
     }
-}
-
-// A sheet with no stain.
-fn clean_sheet() -> [u8; SHEET_SIZE]
-    ensures { result ≡ unstained }
-{
-    [0; SHEET_SIZE]
 }

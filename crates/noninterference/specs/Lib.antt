@@ -1,4 +1,5 @@
 pub mod Refusals
+pub mod Letters
 pub mod Processors
 pub mod Steps
 pub mod Histories

@@ -1,4 +1,7 @@
-// What a step answers.
+// What a step answers, and why a run stops.
+ghost use Rattle.std.specs.Prelude.{◌≡◌};
+ghost use Rattle.noninterference.specs.Letters.{letter_byte};
+
 use registers::Mar;
 
 // How a visit ended. A visit is one activation of an interrupt handler: it opens with a ring and ends with the return that
@@ -30,4 +33,18 @@ pub enum Letter {
     Refused,
     Told,
     Marred,
+}
+
+impl Letter {
+    // The letter as it is printed.
+    pub fn byte(self) -> u8
+        ensures { result ≡ letter_byte self }
+    {
+        match self {
+            Letter::Done => b'S',
+            Letter::Refused => b'R',
+            Letter::Told => b'T',
+            Letter::Marred => b'M',
+        }
+    }
 }

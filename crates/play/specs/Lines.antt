@@ -8,11 +8,10 @@ use Rattle.text.specs.declared.Piece.{Piece}
 use Rattle.text.specs.declared.Piece.TheVariants.{Byte, Word, Decimal, Octal2, Hex1, Hex2, Hex4, Row}
 use Rattle.text.specs.Pieces.{joined}
 use Rattle.noninterference.specs.declared.answer.Answer.{Answer}
-use Rattle.noninterference.specs.declared.answer.Letter.{Letter}
-use Rattle.noninterference.specs.declared.answer.Letter.TheVariants as letter
 use Rattle.noninterference.specs.declared.answer.VisitEnd.{VisitEnd}
 use Rattle.noninterference.specs.declared.answer.VisitEnd.TheVariants.{Clean, Marred}
 use Rattle.noninterference.specs.declared.refusal.Refusal.{Refusal as StepRefusal}
+use Rattle.noninterference.specs.Letters.{letter_byte}
 use Rattle.noninterference.specs.Refusals.{step_number}
 use Rattle.engine.specs.declared.live.ReadOut.{ReadOut}
 use Rattle.engine.specs.declared.live.running.Report.{Report}
@@ -39,13 +38,6 @@ end_line o = Word (codes "EN ") ∷ Octal2 o.arp ∷ Byte 32 ∷ Octal2 o.drp �
 abbrev pub end_lines : ReadOut → List Piece
 end_lines o = end_line o ++ flat_map (register_line o.registers) (range_with_len 0 8)
 
--- S when all steps are done, R after a refusal, T after a stain told, M after a marred end.
-abbrev pub letter_byte : Letter → ℕ
-letter_byte letter.Done = 83
-letter_byte letter.Refused = 82
-letter_byte letter.Told = 84
-letter_byte letter.Marred = 77
-
 -- What the last answer adds to the line of a run: a refusal's number, the stained address told, or the mar.
 abbrev pub end_detail : Option VisitEnd → Option Piece
 end_detail None = None
@@ -66,6 +58,7 @@ abbrev pub run_with : Report → ℕ → Option Piece → List Piece
 run_with r pc None = Word (codes "RU ") ∷ Decimal r.done ∷ Byte 32 ∷ Byte (letter_byte r.letter) ∷ Byte 32 ∷ Hex4 pc ∷ Byte 10 ∷ []
 run_with r pc (Some d) = Word (codes "RU ") ∷ Decimal r.done ∷ Byte 32 ∷ Byte (letter_byte r.letter) ∷ Byte 32 ∷ Hex4 pc ∷ Byte 32 ∷ d ∷ Byte 10 ∷ []
 
+-- The line of a run that gave this report.
 abbrev pub run_line : Report → ℕ → List Piece
 run_line r pc = run_with r pc (last_detail r.last)
 

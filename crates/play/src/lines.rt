@@ -2,11 +2,11 @@
 ghost use Rattle.std.specs.Prelude.{◌≡◌, ◌+◌, ◌<◌, ◌≤◌, length, IfSome};
 ghost use Rattle.byte_rows.specs.Rows.{over};
 ghost use Rattle.text.specs.Pieces.{joined, room, widest};
-ghost use Rattle.play.specs.Lines.{Lined, end_lines, letter_byte, last_detail, row_line, run_line, ring_number, ring_line, no_line, lines_of};
+ghost use Rattle.play.specs.Lines.{Lined, end_lines, last_detail, row_line, run_line, ring_number, ring_line, no_line, lines_of};
 
 use crate::fault::{Event, PlayFault, Refusal};
 use engine::{ReadOut, Report};
-use noninterference::{Answer, Letter, Refusal as StepRefusal, VisitEnd};
+use noninterference::{Answer, Refusal as StepRefusal, VisitEnd};
 use text::{Piece, put};
 
 // The least size of a line buffer.
@@ -71,17 +71,6 @@ fn put_end(out: &mut [u8; BUFFER_SIZE], read_out: ReadOut) -> usize
     wrote
 }
 
-fn letter_byte(letter: Letter) -> u8
-    ensures { result ≡ letter_byte letter }
-{
-    match letter {
-        Letter::Done => b'S',
-        Letter::Refused => b'R',
-        Letter::Told => b'T',
-        Letter::Marred => b'M',
-    }
-}
-
 // What the last answer of a run adds to its line.
 fn last_detail(last: Option<Result<Answer, StepRefusal>>) -> Option<Piece>
     ensures piece { result ≡ last_detail last }
@@ -103,7 +92,7 @@ fn put_run(out: &mut [u8; BUFFER_SIZE], report: Report, pc: u16) -> usize
     let word = Piece::Word(*b"RU ");
     let done = Piece::Decimal(u64::from(report.done));
     let space = Piece::Byte(b' ');
-    let letter = Piece::Byte(letter_byte(report.letter));
+    let letter = Piece::Byte(report.letter.byte());
     let place = Piece::Hex4(pc);
     let newline = Piece::Byte(b'\n');
     match last_detail(report.last) {

@@ -1,14 +1,14 @@
 -- What is printed of a whole tape.
 use Rattle.std.specs.Prelude.{◌≡◌, ℕ, zero, suc, ◌+◌, cond, List, [], ◌++◌, length}
-use Rattle.byte_rows.specs.Rows.{zeros}
+use Rattle.stains.specs.Marks.{blank as unstained}
 use Rattle.memory.specs.Blank.{blank}
 use Rattle.play.specs.Work.{cold, scene}
 use Rattle.play.specs.Lines.{lines_of}
 use Rattle.play.specs.Play.{World, world, play_of, over_of}
 
--- A cold exchange with a zero sheet, on zero memory, at the tape's first byte.
+-- A cold exchange with a clean sheet, on zero memory, at the tape's first byte.
 abbrev pub start : World
-start = world (scene cold (zeros 8192) blank) 0
+start = world (scene cold unstained blank) 0
 
 -- The lines of at most n records, one record's after another's.
 unfoldable pub printed : ℕ → List ℕ → World → List ℕ

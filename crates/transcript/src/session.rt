@@ -1,11 +1,10 @@
 // A tape that is being played, with all that the player works on.
 ghost use Rattle.std.specs.Prelude.{◌≡◌, ◌++◌, [], IfOk, OnOk};
-ghost use Rattle.byte_rows.specs.Rows.{zeros};
 ghost use Rattle.play.specs.Lines.{lines_of};
 ghost use Rattle.transcript.specs.Printed.{start};
 ghost use Rattle.transcript.specs.Sessions.{tape_in, world_in, next_in};
 
-use engine::SHEET_SIZE;
+use engine::{SHEET_SIZE, clean_sheet};
 use memory::Memory;
 use play::{BUFFER_SIZE, Player};
 use std::alloc::{AllocError, Global};
@@ -47,11 +46,4 @@ impl<'a> Session<'a> {
             .play(&mut self.memory, &mut self.sheet, &mut self.lines);
         self.text.extend_from_slice(&self.lines[..played.wrote])
     }
-}
-
-// A sheet with no stain.
-fn clean_sheet() -> [u8; SHEET_SIZE]
-    ensures { result ≡ zeros 8192 }
-{
-    [0; SHEET_SIZE]
 }
