@@ -1,10 +1,10 @@
 // What comes of a record, and why one is refused.
 ghost use Rattle.std.specs.Prelude.{◌≡◌};
 ghost use Rattle.play.specs.declared.fault.Refusal.TheVariants.{Tape, Load, Step};
-ghost use Rattle.play.specs.Numbers.{refusal_number};
+ghost use Rattle.play.specs.Numbers.{refusal_described, refusal_number};
 
 use engine::{LoadFault, ReadOut, Report};
-use noninterference::Refusal as StepRefusal;
+use noninterference::{Description, Detail, Refusal as StepRefusal};
 use tape::TapeFault;
 
 #[derive(Clone, Copy, PartialEq, Eq, Debug)]
@@ -20,17 +20,27 @@ pub enum Refusal {
 }
 
 impl Refusal {
-    // The refusal's number: that of the fault below where there is one, so that no discriminant can say it.
+    // Number and detail: those of the fault below where there is one, so that no discriminant can say them.
+    pub fn describe(self) -> Description
+        ensures { result ≡ refusal_described self }
+    {
+        let number = match self {
+            Refusal::Sheet => 1,
+            Refusal::Tape(fault) => fault.number(),
+            Refusal::Load(fault) => return fault.describe(),
+            Refusal::Step(refusal) => return refusal.fault.describe(),
+            Refusal::Buffer => 14,
+        };
+        Description {
+            number,
+            detail: Detail::None,
+        }
+    }
+
     pub fn number(self) -> u8
         ensures { result ≡ refusal_number self }
     {
-        match self {
-            Refusal::Sheet => 1,
-            Refusal::Tape(fault) => fault.number(),
-            Refusal::Load(fault) => fault.number(),
-            Refusal::Step(refusal) => refusal.fault.number(),
-            Refusal::Buffer => 14,
-        }
+        self.describe().number
     }
 }
 
