@@ -118,7 +118,7 @@ fn may_change(instruction: Instruction, cpu: &Cpu, part: Part) -> bool
 #[tactic(auto, using(crate::proofs::Left::leaves))]
 pub fn leaves(instruction: Instruction, cpu: &Cpu, part: Part) -> bool
     ensures value { result ≡ not (may_change_in instruction (state_of cpu.now) part) }
-    ensures law { result ≡ true → Leaves instruction (state_of cpu.now) part }
+    ensures stays { result ≡ true → Leaves instruction (state_of cpu.now) part }
 {
     !may_change(instruction, cpu, part)
 }

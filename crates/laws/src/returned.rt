@@ -12,7 +12,7 @@ use registers::Cpu;
 #[tactic(auto, using(crate::proofs::Undoing::undone))]
 pub fn given_back(instruction: Instruction, cpu: &Cpu, later: &Cpu) -> Option<Cpu>
     ensures value { option_map state_of result ≡ given_back_in instruction (state_of cpu.now) (state_of later.now) }
-    ensures law { Undone instruction (state_of cpu.now) (state_of later.now) }
+    ensures undone { Undone instruction (state_of cpu.now) (state_of later.now) }
 {
     let mut back = *later;
     back.set_pair(6, cpu.pair(6));

@@ -1,5 +1,5 @@
 -- An exchange with the history of all that was tried on it since it began.
-use Rattle.std.specs.Prelude.{◌≡◌, ℕ, Bool, true, false, cond, List, [], ◌∷◌, Some, None, Ok, Err, Option, Result}
+use Rattle.std.specs.Prelude.{◌≡◌, ℕ, Bool, true, false, cond, List, [], ◌∷◌, map, Some, None, Ok, Err, Option, Result}
 use Rattle.bus.specs.Meaning.{Meaning}
 use Rattle.stains.specs.Marks.{blank}
 use Rattle.stains.specs.Stores.{Store, stores_to}
@@ -76,16 +76,10 @@ Unrung (a_step ∷ cs) = Unrung cs
 Unrung (a_run n ∷ cs) = Unrung cs
 Unrung (a_ring v ∷ cs) = ⊥
 
-abbrev pub purged_with : Event → List Call → List Call
-purged_with (outside o ss) cs = a_step ∷ cs
-purged_with (within o ss) cs = cs
-purged_with (ringing o ss) cs = cs
-
 -- A history purged of rings and visits: a step for each step outside visits. Which order they have is no question, as one
 -- step is asked for like another.
 abbrev pub purged : List Event → List Call
-purged [] = []
-purged (e ∷ es) = purged_with e (purged es)
+purged es = map (λ _. a_step) (answers es)
 
 module _ (P : Processor) where
   open P use {Cpu}
