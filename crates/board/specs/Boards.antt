@@ -22,10 +22,12 @@ abbrev pub outcome_in : {A : Type 0} → (World → Called A) → Option World �
 outcome_in call None = Err OutOfTurn
 outcome_in call (Some w) = (call w).outcome
 
+-- What a call leaves.
 abbrev pub after_in : {A : Type 0} → (World → Called A) → Option World → Option World
 after_in call None = None
 after_in call (Some w) = Some (call w).after
 
+-- The program counter.
 abbrev pub pc_in : Option World → Result ℕ CallFault
 pc_in None = Err OutOfTurn
 pc_in (Some w) = pc_call w
@@ -35,10 +37,12 @@ abbrev pub MayMake : Option World → ℕ → Type 0
 MayMake None n = (n ≡ 0) ⊎ (n ≡ 255)
 MayMake (Some w) n = n ≡ 12
 
+-- What making a board leaves: a cold exchange with a clean sheet on zero memory, where 0 was answered.
 abbrev pub made_from : Option World → ℕ → Option World
 made_from None n = cond (n == 0) (Some (cold unstained blank)) None
 made_from (Some w) n = Some w
 
+-- Freeing a board that was not made is out of turn.
 abbrev pub free_number : Option World → ℕ
 free_number None = 12
 free_number (Some w) = 0

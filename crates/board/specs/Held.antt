@@ -18,9 +18,11 @@ abbrev pub held : Ptr → Option the_row.Denot → Fml
 held p None = ftrue
 held p (Some i) = box_owns (ghosts.dealloc_token heap) the_row p i
 
+-- The code of its type, which a ghost field has to have.
 abbrev pub held_coded : Coded (Option the_row.Denot)
 held_coded = coded_option the_row.coded
 
+-- The installation in a box, if there is one.
 abbrev pub opened : Option (Box the_row.Denot Global) → Option the_row.Denot
 opened None = None
 opened (Some b) = Some b.value

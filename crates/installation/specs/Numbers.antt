@@ -13,11 +13,13 @@ call_described OutOfTurn = record { number = 12; detail = detail.None }
 call_described (Load f) = load_described f
 call_described (Exchange r) = described r.fault
 
+-- The program counter beforehand, where the exchange refused; else 0.
 abbrev pub call_place : CallFault → ℕ
 call_place OutOfTurn = 0
 call_place (Load f) = 0
 call_place (Exchange r) = r.place
 
+-- The stain that a refused step told.
 abbrev pub call_told : CallFault → Option ℕ
 call_told OutOfTurn = None
 call_told (Load f) = None

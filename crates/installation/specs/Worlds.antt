@@ -20,5 +20,6 @@ world_at (phase.Loading c) sheet m = cold sheet m
 world_at (phase.InService l) sheet m = live (in_service l sheet m)
 world_at phase.Over sheet m = over sheet m
 
+-- An installation by its parts.
 abbrev pub world_of : Installation → World
 world_of i = world_at i.phase i.sheet (meaning_of i.memory)

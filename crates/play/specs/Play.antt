@@ -19,12 +19,15 @@ pub record World : Type 0 where
 abbrev pub world : Scene → ℕ → World
 world s n = record { scene = s; place = n }
 
+-- The tape that a player reads.
 abbrev pub tape_of : Player → List ℕ
 tape_of p = p.reader.tape.now
 
+-- A player, its sheet and what its bus means.
 abbrev pub world_of : Player → List ℕ → Meaning → World
 world_of p sheet m = world (scene (stage_of p.phase) sheet m) p.reader.place
 
+-- What came of a record, and what is left.
 pub record Handled : Type 0 where
   pub outcome : Result Event Refusal
   pub after : World
@@ -38,6 +41,7 @@ abbrev pub place_after : Result Event Refusal → ℕ → ℕ → ℕ
 place_after (Ok e) place n = place + n
 place_after (Err r) place n = place
 
+-- A refusal of the tape is one of the record.
 abbrev pub tape_refusal : Result Entry TapeFault → Result Entry Refusal
 tape_refusal (Ok e) = Ok e
 tape_refusal (Err f) = Err (Tape f)
@@ -50,6 +54,7 @@ abbrev pub entry_in : Result Record Refusal → Result Entry Refusal
 entry_in (Ok r) = Ok (entry_of r)
 entry_in (Err r) = Err r
 
+-- A record that was read is played, and passed unless that refuses it.
 abbrev pub performed_of : Entry → World → Handled
 performed_of e w = record { outcome = (work_of e w.scene).outcome; after = world (work_of e w.scene).after (place_after (work_of e w.scene).outcome w.place (size_of e)) }
 
@@ -57,9 +62,11 @@ abbrev pub handled_by : Result Entry Refusal → World → Handled
 handled_by (Err r) w = refuse r w
 handled_by (Ok e) w = performed_of e w
 
+-- The next record, read and played.
 abbrev pub handled_of : List ℕ → World → Handled
 handled_of tape w = handled_by (next_of tape w.scene.stage w.scene.sheet w.place) w
 
+-- What came of a record, a refusal with the offset at which it begins, and what is left.
 pub record Outcome : Type 0 where
   pub outcome : Result Event PlayFault
   pub after : World

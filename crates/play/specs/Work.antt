@@ -21,8 +21,8 @@ use Rattle.play.specs.declared.fault.Event.TheVariants.{Loaded, Began, Ran, Rang
 use Rattle.play.specs.declared.phase.Phase.{Phase}
 use Rattle.play.specs.declared.phase.Phase.TheVariants as phase
 
--- How far the exchange has come: cold, live with the state of its processor and the copy of an open visit, at its end, or at a
--- refused record.
+-- How far the exchange has come: cold, which is before GO; live, which is in service, with the state of its processor and, while
+-- an interrupt handler is at work, the copy of the processor from before; after EN; or at a refused record.
 pub data Stage : Type 0 where
   cold : Stage
   live : State → Option State → Stage
@@ -51,6 +51,7 @@ pub record Scene : Type 0 where
 abbrev pub scene : Stage → List ℕ → Meaning → Scene
 scene g s m = record { stage = g; sheet = s; meaning = m }
 
+-- What came of a record, and what is left of the exchange, its sheet and its bus.
 pub record Worked : Type 0 where
   pub outcome : Result Event Refusal
   pub after : Scene
@@ -69,6 +70,7 @@ abbrev pub load_stage : Result (Unit {0}) LoadFault → Stage
 load_stage (Ok _) = cold
 load_stage (Err f) = refused
 
+-- A record that is out of turn is refused, and ends the tape.
 abbrev out_of_turn : Scene → Worked
 out_of_turn s = record { outcome = Err (Tape OutOfTurn); after = scene refused s.sheet s.meaning }
 
@@ -88,10 +90,11 @@ abbrev pub run_scene : Result Report StepRefusal → ExchangeState machine → S
 run_scene (Ok r) x = scene_of x
 run_scene (Err f) x = scene refused x.sheet x.meaning
 
+-- A run of an exchange in service.
 abbrev pub ran_on : ℕ → ExchangeState machine → Worked
 ran_on n x = record { outcome = run_event (run_outcome n x) (run_after n x); after = run_scene (run_outcome n x) (run_after n x) }
 
--- A refused ring does not end the tape.
+-- A ring: a refused one does not end the tape.
 abbrev pub rang_on : ℕ → ExchangeState machine → Worked
 rang_on v x = record { outcome = Ok (Rang (sized machine x (ringing machine v x)).outcome (pc_of (sized machine x (ringing machine v x)).after_it.cpu)); after = scene_of (sized machine x (ringing machine v x)).after_it }
 

@@ -10,6 +10,7 @@ use Rattle.tape.specs.declared.record.Mark.TheVariants as mark
 use Rattle.tape.specs.declared.record.Record.{Record}
 use Rattle.tape.specs.declared.record.Record.TheVariants.{Load, Go, Run, Ring, End}
 
+-- The refusals of a tape, which have no detail.
 abbrev pub tape_number : TapeFault → ℕ
 tape_number UnknownMark = 10
 tape_number CutOff = 11
@@ -24,6 +25,7 @@ pub data Entry : Type 0 where
   ring : ℕ → Entry
   end : Entry
 
+-- A record that was read from a tape, by its values.
 abbrev pub entry_of : Record → Entry
 entry_of (Load address offset bytes) = load address offset bytes.now
 entry_of (Go pc return) = go pc return
@@ -108,6 +110,7 @@ fields_of mark.Run at bs = run_of bs
 fields_of mark.Ring at bs = ring_of bs
 fields_of mark.End at bs = Ok end
 
+-- What follows from a value; a refusal stays.
 abbrev pub bind : {X Y : Type 0} → Result X TapeFault → (X → Result Y TapeFault) → Result Y TapeFault
 bind (Ok x) f = f x
 bind (Err e) f = Err e

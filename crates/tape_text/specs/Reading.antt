@@ -30,10 +30,12 @@ abbrev pub before : List ℕ → Result (List ℕ) TextFault → Result (List �
 before xs (Ok ys) = Ok (xs ++ ys)
 before xs (Err f) = Err f
 
+-- One part of a text after another; the first fault stays.
 abbrev pub then : Result (List ℕ) TextFault → Result (List ℕ) TextFault → Result (List ℕ) TextFault
 then (Ok xs) r = before xs r
 then (Err f) r = Err f
 
+-- A byte and what follows it, or the fault where there is none.
 abbrev pub byte_then : Option ℕ → TextFault → Result (List ℕ) TextFault → Result (List ℕ) TextFault
 byte_then (Some b) f r = before (b ∷ []) r
 byte_then None f r = Err f
@@ -61,6 +63,7 @@ line_from n end [] = Ok []
 line_from n end (c ∷ []) = cond (c == 35 || is_blank c) (Ok []) (Err (fault n end (c ∷ []) Mark))
 line_from n end (c ∷ d ∷ rest) = cond (c == 35) (Ok []) (cond (is_blank c) (line_from n end (d ∷ rest)) (marked n end c d rest))
 
+-- Line n, from its first column on.
 abbrev pub line_at : ℕ → List ℕ → Result (List ℕ) TextFault
 line_at n line = line_from n (length line + 1) line
 

@@ -4,9 +4,11 @@ use Rattle.memory.specs.Pile.{meaning_of}
 use Rattle.play.specs.Play.{World, world_of, tape_of, Outcome, play_of}
 use Rattle.transcript.specs.declared.session.Session.{Session}
 
+-- The tape of a session.
 abbrev pub tape_in : Session → List ℕ
 tape_in s = tape_of s.player
 
+-- Its exchange with sheet and memory, and its place on the tape.
 abbrev pub world_in : Session → World
 world_in s = world_of s.player s.sheet (meaning_of s.memory)
 
