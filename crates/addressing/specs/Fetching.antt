@@ -27,6 +27,7 @@ decoded_tree (Some i) code s = literal_tree i s
 unfoldable pub coded_tree : ℕ → State → Tree Fetched
 coded_tree code s = decoded_tree (decoded code) code s
 
+-- The code at the program counter, and what comes after it.
 abbrev pub fetch_tree : State → Tree Fetched
 fetch_tree s = bind (byte_tree (pc_of s)) (λ code. coded_tree code s)
 

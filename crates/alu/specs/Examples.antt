@@ -18,6 +18,7 @@ flags s e = record { status = s; e = e }
 abbrev Gives : Result Done NotDecimal → List ℕ → Bool → Bool → Bool → Bool → ℕ → Type 0
 Gives r row cy ovf msb z e = (s : Status) × (r ≡ Ok (record { row = row; flags = flags s e })) × (s.cy ≡ cy) × (s.ovf ≡ ovf) × (s.msb ≡ msb) × (s.z ≡ z)
 
+-- The examples, each with what it shows.
 pub record WorkedExamples : Type 0 where
   -- ICM of FF FF is 00 00 with CY 1, Z 1, OVF 0.
   pub increment_wraps : Gives (operated Increment (flags clear 0) (0xFF ∷ 0xFF ∷ []) []) (0 ∷ 0 ∷ []) true false false true 0

@@ -18,6 +18,7 @@ use Rattle.alu.specs.Seen.{last_of, seen}
 use Rattle.alu.specs.Shifts.{radix_of, left_row, left_out, right_row, right_out}
 use Rattle.alu.specs.Sums.{system_of, overflow_of}
 
+-- What an operation leaves: the data, and status and E.
 pub record Done : Type 0 where
   pub row : List ℕ
   pub flags : Flags
@@ -50,6 +51,7 @@ abbrev pub unit_of : Bool → By
 unit_of true = Digit
 unit_of false = Bit
 
+-- How many values that has.
 abbrev pub radix_in : Flags → ℕ
 radix_in f = radix_of (unit_of f.status.dcm)
 
@@ -57,6 +59,7 @@ radix_in f = radix_of (unit_of f.status.dcm)
 abbrev pub incoming_of : Flags → ℕ
 incoming_of f = cond f.status.dcm f.e (bit_of f.status.cy)
 
+-- Whether two signs differ.
 abbrev pub different : Bool → Bool → Bool
 different true b = not b
 different false b = b
@@ -78,6 +81,7 @@ left_by f xs c = shifted_out f (left_row (radix_in f) xs c) (left_out (radix_in 
 abbrev pub left_done : Flags → List ℕ → ℕ → Done
 left_done f xs incoming = left_by f xs (incoming % radix_in f)
 
+-- A right shift puts in at the high end.
 abbrev pub right_by : Flags → List ℕ → ℕ → Done
 right_by f xs c = shifted_out f (right_row (radix_in f) xs c) (right_out (radix_in f) xs c) false
 

@@ -17,6 +17,7 @@ sized (suc n) ys = first ys ∷ sized n (others ys)
 abbrev pub negative : ℕ → List ℕ → Bool
 negative n bytes = nat_lt 0 n && nat_le 128 (slice_index bytes (n - 1))
 
+-- Every byte is zero.
 abbrev pub all_zero : List ℕ → Bool
 all_zero bytes = list_all (λ b. b == 0) bytes
 

@@ -3,6 +3,7 @@ use Rattle.std.specs.Prelude.{ℕ, ◌+◌, ◌*◌, ◌/◌, ◌%◌, List, [],
 use Rattle.alu.specs.declared.shift.Unit.{Unit as By}
 use Rattle.alu.specs.declared.shift.Unit.TheVariants.{Bit, Digit}
 
+-- A bit has 2 values, a digit of four bits 16.
 abbrev pub radix_of : By → ℕ
 radix_of Bit = 2
 radix_of Digit = 16
@@ -12,6 +13,7 @@ abbrev pub left_row : ℕ → List ℕ → ℕ → List ℕ
 left_row k [] c = []
 left_row k (x ∷ xs) c = ((x * k + c) % 256) ∷ left_row k xs ((x * k + c) / 256)
 
+-- What is lost above the high byte.
 abbrev pub left_out : ℕ → List ℕ → ℕ → ℕ
 left_out k [] c = c
 left_out k (x ∷ xs) c = left_out k xs ((x * k + c) / 256)

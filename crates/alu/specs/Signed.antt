@@ -7,6 +7,7 @@ use Rattle.counting.specs.System.{number}
 abbrev pub worth : ℕ → ℕ → ℤ
 worth p a = cond (nat_lt (2 * a) p) (pos a) (pos a -ℤ pos p)
 
+-- A row of bytes as a signed number.
 abbrev pub signed : List ℕ → ℤ
 signed bytes = worth (256 ^ length bytes) (number binary bytes)
 

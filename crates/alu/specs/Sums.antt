@@ -27,6 +27,7 @@ turned true false r = false
 turned false true r = false
 turned false false r = r
 
+-- Subtracting adds the number of the other sign; negating adds that of the data to 0.
 abbrev pub signs_of : Link → Bool → Bool → Bool → Bool
 signs_of Add a b r = turned a b r
 signs_of Subtract a b r = turned a (not b) r

@@ -5,6 +5,7 @@ use Rattle.alu.specs.declared.operations.NotDecimal.{NotDecimal}
 use Rattle.alu.specs.declared.words.Worked.{Worked}
 use Rattle.alu.specs.Operations.{Done, done}
 
+-- What an operation left of a row that is a word, by its bytes.
 abbrev pub done_of : Worked → Done
 done_of w = done (bytes_of w.row) w.flags
 

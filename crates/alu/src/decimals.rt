@@ -1,6 +1,6 @@
 // Decimal rows of up to eight bytes as words. Bytes of two digits are taken as values below 100, each in a byte of the word, added
 // or subtracted in binary, and made digits again.
-ghost use Rattle.std.specs.Prelude.{◌≡◌, ℕ, ◌+◌, ◌*◌, ◌/◌, ◌%◌, ◌≤◌, true, false, map, nat_lt};
+ghost use Rattle.std.specs.Prelude.{◌≡◌, ◌*◌, ◌/◌, ◌%◌, ◌≤◌, true, false, map, nat_lt};
 ghost use Rattle.byte_rows.specs.Short.{low_bytes, bytes_of};
 ghost use Rattle.counting.specs.Chain.{row_of, carry_of};
 ghost use Rattle.counting.specs.Decimal.{decimal, two_digits};

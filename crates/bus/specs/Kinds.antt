@@ -17,6 +17,7 @@ place_of base n a = cond (within base n a) (Ok (a - base)) (Err (here NoByte))
 abbrev pub bytes_meaning : ℕ → ℕ → List ℕ → Meaning
 bytes_meaning base n bs = record { reads = λ a. cond (within base n a) (Ok (slice_index bs (a - base))) (Err (here NoByte)); takes = λ a. cond (within base n a) (Ok tt) (Err (here NoByte)) }
 
+-- RAM is read and stored.
 abbrev pub ram_meaning : ℕ → List ℕ → Meaning
 ram_meaning base bs = bytes_meaning base (length bs) bs
 

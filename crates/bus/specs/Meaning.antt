@@ -36,6 +36,7 @@ raised (Err r) = Err (record { cause = r.cause; depth = min (r.depth + 1) 255 })
 abbrev pub stored : Meaning → ℕ → ℕ → Meaning
 stored m a b = record { reads = λ x. cond (x == a) (Ok b) (m.reads x); takes = m.takes }
 
+-- One thing where a call was taken, and another where it was refused.
 abbrev pub if_ok : {X Y : Type 0} → Result X BusRefusal → Y → Y → Y
 if_ok (Ok _) y z = y
 if_ok (Err _) y z = z

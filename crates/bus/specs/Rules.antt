@@ -3,6 +3,7 @@ use Rattle.std.specs.Prelude.{◌≡◌, ℕ, ◌≤◌, true, is_ok, Ok, Err, R
 use Rattle.bus.specs.declared.refusal.BusRefusal.{BusRefusal}
 use Rattle.bus.specs.Meaning.{Meaning}
 
+-- The depth of a refusal; an answer has none.
 abbrev pub depth_of : {X : Type 0} → Result X BusRefusal → ℕ
 depth_of (Ok _) = 0
 depth_of (Err r) = r.depth

@@ -1,4 +1,4 @@
--- What a chain over a row of bytes comes to, byte by byte and in whole numbers.
+-- A chain works through a row of bytes, the low one first, and hands the carry on: what it comes to, byte by byte and in whole numbers.
 use Rattle.std.specs.Prelude.{◌≡◌, ℕ, ◌+◌, ◌-◌, ◌/◌, ◌%◌, ◌^◌, Bool, not, List, [], ◌∷◌, length, Option, position, drop, slice_index, ◌==◌, nat_lt}
 use Rattle.counting.specs.declared.Link.{Link}
 use Rattle.counting.specs.declared.Link.TheVariants.{Add, Subtract, Negate, Complement}

@@ -1,4 +1,5 @@
--- A counting: a base, which bytes are lawful, the value of each, and what it does with bytes.
+-- A counting is a number system whose digits are bytes, as binary and packed decimal are: a base, which bytes are lawful, the value
+-- of each, and what it does with bytes.
 use Rattle.std.specs.Prelude.{◌≡◌, ℕ, ◌+◌, ◌*◌, ◌<◌, Bool, true, false, List, [], ◌∷◌}
 
 pub record System : Type 0 where

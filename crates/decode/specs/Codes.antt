@@ -35,9 +35,11 @@ form_of c = of2 (c % 2) Byte Multi
 abbrev pub source_of : ℕ → Source
 source_of n = cond (n == 1) R0 (Number n)
 
+-- EL, ER, LL, LR.
 abbrev pub shift_of : ℕ → Operation
 shift_of n = of4 n op.ExtendedLeft op.ExtendedRight op.LogicalLeft op.LogicalRight
 
+-- IC, DC, TC, NC.
 abbrev pub count_of : ℕ → Operation
 count_of n = of4 n op.Increment op.Decrement op.Negate op.Complement
 
@@ -45,6 +47,7 @@ count_of n = of4 n op.Increment op.Decrement op.Negate op.Complement
 abbrev pub logic_of : ℕ → Form → Instruction
 logic_of n f = of4 n (instruction.Compute op.Test None f) (instruction.Compute op.Clear None f) (instruction.Compute op.Or (Some mode.Register) f) (instruction.Compute op.ExclusiveOr (Some mode.Register) f)
 
+-- BIN, BCD, SAD, DCE, ICE, CLE, RTN, PAD.
 abbrev pub control_of : ℕ → Control
 control_of n = of8 n control.Binary control.Decimal control.SaveStatus control.DecrementE control.IncrementE control.ClearE control.Return control.RestoreStatus
 

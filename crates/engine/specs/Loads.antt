@@ -11,6 +11,7 @@ abbrev pub load_described : LoadFault → Description
 load_described Empty = record { number = 13; detail = None }
 load_described PastMemory = record { number = 13; detail = None }
 
+-- The number alone.
 abbrev pub load_number : LoadFault → ℕ
 load_number f = (load_described f).number
 
@@ -23,5 +24,6 @@ abbrev pub loaded_by : Result (Unit {0}) LoadFault → ℕ → List ℕ → Mean
 loaded_by (Ok _) a bs m = loaded m a bs
 loaded_by (Err _) a bs m = m
 
+-- What the memory, which ends at `room`, means after a load.
 abbrev pub load_after : ℕ → ℕ → List ℕ → Meaning → Meaning
 load_after room a bs m = loaded_by (load_answer room a (length bs)) a bs m

@@ -9,9 +9,11 @@ use Rattle.engine.specs.declared.live.Live.{Live}
 use Rattle.engine.specs.declared.live.ReadOut.{ReadOut}
 use Rattle.engine.specs.Machine.{machine, at_service}
 
+-- The state of its processor.
 abbrev pub live_state : Live → State
 live_state l = state_of l.cpu
 
+-- The state of a copy, if there is one.
 abbrev pub copy_of : Option Cpu → Option State
 copy_of None = None
 copy_of (Some c) = Some (state_of c)
@@ -24,6 +26,6 @@ visit_state l = copy_of l.visit
 abbrev pub in_service : Live → List ℕ → Meaning → ExchangeState machine
 in_service l sheet m = at_service (live_state l) (visit_state l) sheet m
 
--- The read-out is the whole state of the processor.
+-- The read-out is a dump of the processor's whole state.
 abbrev pub read_out_of : State → ReadOut
 read_out_of s = record { registers = s.registers; arp = s.arp; drp = s.drp; status = s.status; e = s.e }

@@ -25,6 +25,7 @@ loaded s = with_row (with_pair s 4 ((pc_of s + 1) % 65536)) 24 (register_at s.re
 abbrev pub Goes : State → ℕ → ℕ → Type 0
 Goes s offset to = (m : Meaning) → m.reads 256 ≡ Ok 0xF0 → m.reads 257 ≡ Ok offset → Comes m (with_pair s 4 256) (λ p. pc_of p.after ≡ to)
 
+-- The settings, for a processor in any state.
 pub record WorkedSettings (s : State) : Type 0 where
   -- At DRP R42, R30, R37 and R77 a multi form spans 6, 2, 1 and 1 registers.
   pub spans : map (span_of Multi) (34 ∷ 24 ∷ 31 ∷ 63 ∷ []) ≡ 6 ∷ 2 ∷ 1 ∷ 1 ∷ []

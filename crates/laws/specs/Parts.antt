@@ -31,6 +31,7 @@ base_moves base.Indexed arp x = in_row 2 2 x
 base_moves base.StackUp arp x = in_row arp 2 x
 base_moves base.StackDown arp x = in_row arp 2 x
 
+-- A mode moves the pair that its base moves.
 abbrev pub mode_moves : Option Mode → ℕ → ℕ → Bool
 mode_moves (Some (Memory b i)) arp x = base_moves b arp x
 mode_moves m arp x = false
@@ -47,6 +48,7 @@ names (Alone RestoreStatus) arp drp x = in_row 6 2 x
 names (Call b) arp drp x = in_row 6 2 x || base_moves b arp x
 names i arp drp x = false
 
+-- EL, ER, LL and LR.
 abbrev pub shifts : Operation → Bool
 shifts ExtendedLeft = true
 shifts ExtendedRight = true
@@ -54,11 +56,13 @@ shifts LogicalLeft = true
 shifts LogicalRight = true
 shifts o = false
 
+-- ARP is set by its own codes and by PAD.
 abbrev pub changes_arp : Instruction → Bool
 changes_arp (SetArp x) = true
 changes_arp (Alone RestoreStatus) = true
 changes_arp i = false
 
+-- DRP likewise.
 abbrev pub changes_drp : Instruction → Bool
 changes_drp (SetDrp x) = true
 changes_drp (Alone RestoreStatus) = true

@@ -4,7 +4,7 @@ use Rattle.bus.specs.declared.refusal.BusRefusal.{BusRefusal}
 use Rattle.bus.specs.declared.refusal.Cause.TheVariants.{Guarded, OutsideShadow}
 use Rattle.bus.specs.Meaning.{Meaning, here, raised, if_ok}
 
--- A guard locks the addresses from its first to its last.
+-- A guard is write protection: it locks the addresses from its first to its last against stores.
 abbrev pub guarded : ℕ → ℕ → ℕ → Bool
 guarded first last a = nat_le first a && nat_le a last
 
@@ -16,11 +16,11 @@ guard_admits first last a = cond (guarded first last a) (Err (here Guarded)) (Ok
 abbrev pub guard_meaning : ℕ → ℕ → Meaning → Meaning
 guard_meaning first last m = record { reads = λ a. raised (m.reads a); takes = λ a. cond (guarded first last a) (Err (here Guarded)) (raised (m.takes a)) }
 
--- A split sends the addresses under its bound to its first bus and the others to its second.
+-- A split is an address decoder: the addresses under its bound go to its first bus and the others to its second.
 abbrev pub split_meaning : ℕ → Meaning → Meaning → Meaning
 split_meaning at low high = record { reads = λ a. raised (cond (nat_lt a at) (low.reads a) (high.reads a)); takes = λ a. raised (cond (nat_lt a at) (low.takes a) (high.takes a)) }
 
--- A shadow covers the 256 addresses of its page.
+-- A shadow is a copy-on-write page: it covers 256 addresses, and what is stored to them stays in it.
 abbrev pub in_page : ℕ → ℕ → Bool
 in_page page a = a / 256 == page
 
@@ -50,5 +50,6 @@ shadow_takes page below a = cond (in_page page a) (if_readable (raised below)) (
 abbrev pub kept_after : ℕ → (ℕ → Option ℕ) → Result ℕ BusRefusal → ℕ → ℕ → ℕ → Option ℕ
 kept_after page kept below a b = if_ok (shadow_takes page below a) (kept_also kept (a % 256) b) kept
 
+-- A byte that the shadow keeps is read from it, all else from below; stores are as said above.
 abbrev pub shadow_meaning : ℕ → (ℕ → Option ℕ) → Meaning → Meaning
 shadow_meaning page kept m = record { reads = λ a. kept_or (kept_at page kept a) (raised (m.reads a)); takes = λ a. shadow_takes page (m.reads a) a }

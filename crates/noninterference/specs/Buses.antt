@@ -19,6 +19,7 @@ module _ (P : Processor) where
     pub bus : B
     pub history : List Event
 
+  -- As it begins.
   abbrev pub begun_on : {B : Type 0} → Cpu → B → On B
   begun_on c b = record { cpu = c; visit = None; sheet = blank; bus = b; history = [] }
 

@@ -17,6 +17,7 @@ pub data Event : Type 0 where
   within : Outcome → List Store → Event
   ringing : Result (Unit {0}) Refusal → List Store → Event
 
+-- The stores of an event.
 abbrev pub stores_of : Event → List Store
 stores_of (outside o ss) = ss
 stores_of (within o ss) = ss
@@ -43,6 +44,7 @@ abbrev pub answers : List Event → List Outcome
 answers [] = []
 answers (e ∷ es) = answers_with e (answers es)
 
+-- A visit that ended, if one did, ended clean.
 abbrev pub Unmarred : Option VisitEnd → Type 0
 Unmarred None = Unit {0}
 Unmarred (Some Clean) = Unit {0}
@@ -84,6 +86,7 @@ purged es = map (λ _. a_step) (answers es)
 module _ (P : Processor) where
   open P use {Cpu}
 
+  -- A live exchange, and all that was tried on it, the newest first.
   pub record Exchange : Type 0 where
     pub state : State P
     pub history : List Event
@@ -92,13 +95,16 @@ module _ (P : Processor) where
   abbrev pub begun : Cpu → Meaning → Exchange
   begun c m = record { state = record { cpu = c; visit = None; sheet = blank; meaning = m }; history = [] }
 
+  -- A step is within a visit if one is open when it begins.
   abbrev pub step_event : Option Cpu → Worked P Answer → Event
   step_event None w = outside w.outcome w.stores_made
   step_event (Some copy) w = within w.outcome w.stores_made
 
+  -- A step with what it came to is one more event.
   abbrev pub recorded : Worked P Answer → Exchange → Exchange
   recorded w x = record { state = w.after_it; history = step_event x.state.visit w ∷ x.history }
 
+  -- One step after another.
   abbrev pub recorded_all : List (Worked P Answer) → Exchange → Exchange
   recorded_all [] x = x
   recorded_all (w ∷ ws) x = recorded_all ws (recorded w x)
@@ -109,6 +115,7 @@ module _ (P : Processor) where
   called (a_run n) x = recorded_all (tries P n x.state) x
   called (a_ring v) x = record { state = (ring P v x.state).after_it; history = ringing (ring P v x.state).outcome (ring P v x.state).stores_made ∷ x.history }
 
+  -- One call after another.
   abbrev pub called_all : List Call → Exchange → Exchange
   called_all [] x = x
   called_all (c ∷ cs) x = called_all cs (called c x)

@@ -22,5 +22,6 @@ described OddVector = record { number = 2; detail = detail.None }
 described VisitOpen = record { number = 3; detail = detail.None }
 described (Instruction f) = record { number = fault_number f; detail = fault_detail f }
 
+-- The number alone.
 abbrev pub step_number : StepFault → ℕ
 step_number f = (described f).number

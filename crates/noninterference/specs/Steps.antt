@@ -28,8 +28,8 @@ verdict (Some m) = Marred m
 module _ (P : Processor) where
   open P use {Cpu, Plan, after, stores, size, returns, plan, jump, place, level, mar}
 
-  -- A live exchange, with its sheet and what its bus means. While a visit is open there is a copy of the processor from before
-  -- its ring.
+  -- A live exchange, with its sheet and what its bus means. A visit is one activation of an interrupt handler; while it is open
+  -- there is a copy of the processor from before the interrupt, which is its ring.
   pub record State : Type 0 where
     pub cpu : Cpu
     pub visit : Option Cpu
@@ -88,7 +88,8 @@ module _ (P : Processor) where
   ring_by true (Some copy) v s = refused s VisitOpen None
   ring_by true None v s = rung s (came s.meaning (jump v s.cpu))
 
-  -- A ring at a vector: an odd one is refused, then one with a visit open; else it jumps as to a subroutine. It tells no stain.
+  -- A ring is an interrupt through a vector: an odd one is refused, then one with a visit open; else it jumps to the handler as to a
+  -- subroutine. It tells no stain.
   abbrev pub ring : ℕ → State → Worked (Unit {0})
   ring v s = ring_by (v % 2 == 0) s.visit v s
 
@@ -96,6 +97,7 @@ module _ (P : Processor) where
   abbrev pub sized : {A : Type 0} → State → Worked A → Worked A
   sized s w = cond (length s.sheet == 8192) w (refused s Sheet None)
 
+-- A clean end stops no run.
 abbrev pub end_letter : Option VisitEnd → Letter
 end_letter None = letter.Done
 end_letter (Some Clean) = letter.Done
@@ -110,6 +112,7 @@ abbrev pub step_letter : Outcome → Letter
 step_letter (Err r) = letter.Refused
 step_letter (Ok a) = answer_letter a.told a.ended
 
+-- Every letter but S stops a run.
 abbrev pub stops : Letter → Bool
 stops letter.Done = false
 stops letter.Refused = true

@@ -8,6 +8,7 @@ use Rattle.piles.specs.Piles as piles
 use Rattle.piles.specs.declared.pile.Pile.{Pile}
 use Rattle.piles.specs.declared.pile.Pile.TheVariants.{Bottom, Guard', Split', Shadow'}
 
+-- A pile by what the bus at its bottom means, and how its layers lie over it.
 abbrev pub built : {B : Type 0} (mean : B → Meaning) → ((b : B) → Rules (mean b)) → Pile B → Layered
 built mean rules (Bottom b) = piles.bottom (mean b) (rules b)
 built mean rules (Guard' first last x below) = piles.guard first last (built mean rules below)

@@ -1,4 +1,4 @@
--- Piles of any height.
+-- Piles of any height: a pile is a bus that is seen through layers, one over another.
 use Rattle.std.specs.Prelude.{◌≡◌, ℕ, suc, ◌+◌, min, true, false, cond, Some, None, Ok, Err, Option, Result, nat_lt}
 use Rattle.bus.specs.declared.refusal.BusRefusal.{BusRefusal}
 use Rattle.bus.specs.declared.refusal.Cause.TheVariants.{Guarded, OutsideShadow}
@@ -21,6 +21,7 @@ pile_meaning (guard first last p) = guard_meaning first last (pile_meaning p)
 pile_meaning (split at p q) = split_meaning at (pile_meaning p) (pile_meaning q)
 pile_meaning (shadow page kept p) = shadow_meaning page kept (pile_meaning p)
 
+-- It keeps the bus rules, since each layer does over what keeps them.
 pub pile_rules : (p : Layered) → Rules (pile_meaning p)
 pile_rules (bottom m r) = r
 pile_rules (guard first last p) = guard_rules first last (pile_meaning p) (pile_rules p)
@@ -71,5 +72,6 @@ pub record PileLaws (p : Layered) : Type 0 where
   pub judged : (a : ℕ) → (n : ℕ) × (x : Result (Unit {0}) BusRefusal) × Judges a p n x
   pub takes : (a n : ℕ) (x : Result (Unit {0}) BusRefusal) → Judges a p n x → (pile_meaning p).takes a ≡ from_below n x
 
+-- Every pile is a bus.
 abbrev pub PilesAreBuses : Type 0
 PilesAreBuses = (p : Layered) → PileLaws p

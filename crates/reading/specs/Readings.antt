@@ -12,9 +12,11 @@ use Rattle.reading.specs.Trees.{wrap, Tree, done, ask, inquire, came, asked, bin
 abbrev pub next : ℕ → ℕ
 next a = wrap (a + 1)
 
+-- One byte.
 abbrev pub byte_tree : ℕ → Tree ℕ
 byte_tree a = ask a (λ b. done b)
 
+-- A pair, low byte first.
 abbrev pub pair_tree : ℕ → Tree ℕ
 pair_tree a = ask a (λ low. ask (next a) (λ high. done (pair low high)))
 
@@ -44,6 +46,7 @@ abbrev pub row_with : List ℕ → Result (Unit {0}) Fault → Result (List ℕ)
 row_with row (Ok u) = Ok row
 row_with row (Err f) = Err f
 
+-- A byte that was read takes the place of another, and more are read; a refusal leaves the rest as it was.
 abbrev pub got_by : {E : Type 0} → Result ℕ E → ℕ → List ℕ → List ℕ → List ℕ
 got_by (Ok b) x xs more = b ∷ more
 got_by (Err r) x xs more = x ∷ xs

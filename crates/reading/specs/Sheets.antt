@@ -11,6 +11,7 @@ abbrev pub note : List ℕ → Option ℕ → ℕ → Option ℕ
 note sheet None a = cond (stained sheet a) (Some a) None
 note sheet (Some t) a = Some t
 
+-- The same over addresses that are read one after another.
 abbrev pub noted : List ℕ → Option ℕ → List ℕ → Option ℕ
 noted sheet told [] = told
 noted sheet told (a ∷ more) = noted sheet (note sheet told a) more

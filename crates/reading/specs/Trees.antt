@@ -51,6 +51,7 @@ abbrev pub given : {A : Type 0} → Result A Fault → Tree A
 given (Ok x) = done x
 given (Err f) = stop f
 
+-- A value is changed, a fault stays.
 abbrev pub map_ok : {A C : Type 0} → (A → C) → Result A Fault → Result C Fault
 map_ok f (Ok x) = Ok (f x)
 map_ok f (Err e) = Err e

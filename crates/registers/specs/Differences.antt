@@ -18,6 +18,7 @@ register_mar k [] (y ∷ ys) = Some (Register k)
 register_mar k (x ∷ xs) [] = Some (Register k)
 register_mar k (x ∷ xs) (y ∷ ys) = cond (x == y) (register_mar (k + 1) xs ys) (Some (Register k))
 
+-- The first of the pointers, the status and E that differs.
 abbrev pub other_mar : State → State → Option Mar
 other_mar s t =
     cond (s.arp == t.arp)
@@ -28,5 +29,6 @@ other_mar s t =
     (Some Drp))
     (Some Arp)
 
+-- The first part that differs at all.
 abbrev pub mar_of : State → State → Option Mar
 mar_of s t = option_or (register_mar 0 s.registers t.registers) (other_mar s t)

@@ -1,4 +1,4 @@
--- The numbers of mars: registers are 0 to 63.
+-- The numbers of mars. A mar is the first part of the processor that an interrupt handler did not give back; registers are 0 to 63.
 use Rattle.std.specs.Prelude.{ℕ}
 use Rattle.registers.specs.declared.mar.Mar.{Mar}
 use Rattle.registers.specs.declared.mar.Mar.TheVariants.{Register, Arp, Drp, Status, E}

@@ -10,9 +10,11 @@ abbrev pub span_of : Form → ℕ → ℕ
 span_of Byte drp = 1
 span_of Multi drp = cond (nat_lt drp 32) (2 - drp % 2) (8 - drp % 8)
 
+-- Register k.
 abbrev pub register_at : List ℕ → ℕ → ℕ
 register_at rs k = slice_index rs (k % 64)
 
+-- The pair of register k and the next one, low byte first.
 abbrev pub pair_at : List ℕ → ℕ → ℕ
 pair_at rs k = pair (register_at rs k) (register_at rs (k + 1))
 
@@ -21,6 +23,7 @@ abbrev pub row_at : List ℕ → ℕ → ℕ → List ℕ
 row_at rs k zero = []
 row_at rs k (suc n) = register_at rs k ∷ row_at rs (k + 1) n
 
+-- The registers, with a row written to those from k on.
 abbrev pub registers_with : List ℕ → ℕ → List ℕ → List ℕ
 registers_with rs k [] = rs
 registers_with rs k (b ∷ bs) = registers_with (slice_set rs (k % 64) b) (k + 1) bs

@@ -8,6 +8,7 @@ use Rattle.text.specs.declared.Piece.TheVariants.{Byte, Word, Decimal, Octal2, H
 abbrev pub hex_digit : ℕ → ℕ
 hex_digit n = cond (nat_lt n 10) (48 + n) (55 + n)
 
+-- A byte, as two digits.
 abbrev pub hex2 : ℕ → List ℕ
 hex2 b = hex_digit (b / 16) ∷ hex_digit (b % 16) ∷ []
 
@@ -44,5 +45,6 @@ widest (Hex2 n) = 2
 widest (Hex4 n) = 4
 widest (Row bs) = 24
 
+-- How many bytes pieces have at their widest.
 abbrev pub room : List Piece → ℕ
 room ps = sum_by widest ps

@@ -1,5 +1,5 @@
 // The bytes of a row.
-ghost use Rattle.std.specs.Prelude.{◌≡◌, ◌≤◌, ◌*◌, ◌%◌, ◌^◌, nat_le, nat_lt, [], ◌==◌, length, take, slice_index, min, ◌-◌, ◌<◌};
+ghost use Rattle.std.specs.Prelude.{◌≡◌, ◌≤◌, ◌*◌, ◌%◌, ◌^◌, [], ◌==◌, length, take, slice_index, min, ◌-◌, ◌<◌};
 ghost use Rattle.std.specs.List.{list_all};
 ghost use Rattle.byte_rows.specs.Rows.{pair};
 ghost use Rattle.byte_rows.specs.Short.{low_bytes, bytes_of};
@@ -48,7 +48,7 @@ impl Row {
         Row::of_word(u64::from_le_bytes(bytes), n)
     }
 
-    // The bytes, and zero bytes after them.
+    // The bytes, at the front of eight.
     #[inline(always)]
     #[tactic(auto, using(crate::proofs::Lows::take_eight))]
     pub fn bytes(&self) -> [u8; 8]
