@@ -48,11 +48,12 @@ impl Row {
         Row::of_word(u64::from_le_bytes(bytes), n)
     }
 
-    // The bytes, at the front of eight.
+    // The bytes, and zero bytes after them.
     #[inline(always)]
-    #[tactic(auto, using(crate::proofs::Lows::take_eight))]
+    #[tactic(auto, using(crate::proofs::Lows::take_eight, crate::proofs::Lows::eight_low))]
     pub fn bytes(&self) -> [u8; 8]
-        ensures { take (length (bytes_of self.now)) result ≡ bytes_of self.now }
+        ensures bytes { take (length (bytes_of self.now)) result ≡ bytes_of self.now }
+        ensures word { result ≡ low_bytes 8 self.now.word }
     {
         self.word.to_le_bytes()
     }
