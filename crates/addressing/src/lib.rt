@@ -7,5 +7,5 @@ mod lengths;
 mod operands;
 
 pub use addresses::{address_of, base_address, move_pair};
-pub use fetching::{Fetched, fetch, pass};
+pub use fetching::fetch_literal;
 pub use operands::read_operand;

@@ -4,3 +4,4 @@ pub mod Signs
 pub mod Wholes
 pub mod Lanes
 pub mod Values
+pub mod Shows

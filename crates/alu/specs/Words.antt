@@ -1,14 +1,16 @@
 -- What an operation leaves of a row of up to eight bytes.
 use Rattle.std.specs.Prelude.{Ok, Err, Result}
 use Rattle.byte_rows.specs.Short.{bytes_of}
+use Rattle.alu.specs.declared.operations.Flags.{Flags}
 use Rattle.alu.specs.declared.operations.NotDecimal.{NotDecimal}
 use Rattle.alu.specs.declared.words.Worked.{Worked}
-use Rattle.alu.specs.Operations.{Done, done}
+use Rattle.alu.specs.Operations.{Done}
+use Rattle.alu.specs.Seen.{seen}
 
--- What an operation left of a row that is a word, by its bytes.
-abbrev pub done_of : Worked → Done
-done_of w = done (bytes_of w.row) w.flags
+-- CY, OVF and E are told; the rest of the status is seen of the row that is left.
+abbrev pub done_of : Flags → Worked → Done
+done_of f w = record { row = bytes_of w.row; flags = record { status = seen f.status w.cy w.ovf (bytes_of w.row); e = w.e } }
 
-abbrev pub rows_done : Result Worked NotDecimal → Result Done NotDecimal
-rows_done (Ok w) = Ok (done_of w)
-rows_done (Err n) = Err n
+abbrev pub rows_done : Flags → Result Worked NotDecimal → Result Done NotDecimal
+rows_done f (Ok w) = Ok (done_of f w)
+rows_done f (Err n) = Err n

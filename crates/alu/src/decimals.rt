@@ -137,7 +137,6 @@ pub(crate) fn are_digits(word: u64) -> bool
 }
 
 // The digits of what a sum or difference of values left.
-#[inline(always)]
 fn outcome_digits(word: u64) -> u64
     requires { all_bytes is_outcome word ≡ true }
     ensures { low_bytes 8 result ≡ map decimal_of (low_bytes 8 word) }
@@ -146,6 +145,7 @@ fn outcome_digits(word: u64) -> u64
 }
 
 // A decimal sum, of rows of one length.
+#[inline(always)]
 pub(crate) fn add_decimals(a: &Row, b: &Row) -> Combined
     requires same { a.now.len ≡ b.now.len }
     requires data { all_bytes two_digits a.now.word ≡ true }
@@ -163,6 +163,7 @@ pub(crate) fn add_decimals(a: &Row, b: &Row) -> Combined
 }
 
 // A decimal difference, of rows of one length.
+#[inline(always)]
 pub(crate) fn subtract_decimals(a: &Row, b: &Row) -> Combined
     requires same { a.now.len ≡ b.now.len }
     requires data { all_bytes two_digits a.now.word ≡ true }

@@ -16,4 +16,4 @@ pub use operations::{Flags, NotDecimal, Operation, operate};
 pub use shift::{Unit, shift_left, shift_right};
 pub use status::see;
 pub use sums::{Carried, combine};
-pub use words::{Worked, operate_row, see_row};
+pub use words::{Worked, operate_row};

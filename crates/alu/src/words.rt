@@ -5,9 +5,9 @@ ghost use Rattle.byte_rows.specs.Short.{bytes_of};
 ghost use Rattle.counting.specs.Binary.{binary};
 ghost use Rattle.counting.specs.Chain.{row_of, carry_of};
 ghost use Rattle.counting.specs.declared.Link.TheVariants.{Add as Plus, Subtract as Less};
-ghost use Rattle.alu.specs.Seen.{sized, seen};
+ghost use Rattle.alu.specs.Seen.{sized};
 ghost use Rattle.alu.specs.Sums.{system_of, overflow_of};
-ghost use Rattle.alu.specs.Operations.{shown, overflow_in, summed, lessened, operated};
+ghost use Rattle.alu.specs.Operations.{plain, overflow_in, summed, lessened, operated};
 ghost use Rattle.alu.specs.Lanes.{countable};
 ghost use Rattle.alu.specs.Words.{done_of, rows_done};
 
@@ -16,13 +16,14 @@ use crate::operations::{Flags, NotDecimal, Operation, operate};
 use crate::sums::{Carried, overflows};
 use byte_rows::Row;
 use counting::Link;
-use registers::Status;
 
-// What an operation leaves.
+// What an operation leaves: the row, CY, OVF and E. The rest of the status is seen of the row.
 #[derive(Clone, Copy, PartialEq, Eq, Debug)]
 pub struct Worked {
     pub row: Row,
-    pub flags: Flags,
+    pub cy: bool,
+    pub ovf: bool,
+    pub e: u8,
 }
 
 // A sum or difference, and what is told of it.
@@ -30,25 +31,6 @@ pub struct Worked {
 pub(crate) struct Combined {
     pub(crate) row: Row,
     pub(crate) carried: Carried,
-}
-
-// The status after a result that is a row.
-#[inline(always)]
-pub fn see_row(status: Status, cy: bool, ovf: bool, row: &Row) -> Status
-    ensures { result ≡ seen status cy ovf (bytes_of row.now) }
-{
-    let first = row.first();
-    let last = row.last();
-    Status {
-        dcm: status.dcm,
-        cy,
-        ovf,
-        lsb: first % 2 == 1,
-        msb: last >= 128,
-        z: row.is_zero(),
-        ldz: last < 16,
-        rdz: first % 16 == 0,
-    }
 }
 
 // The operand with as many bytes as the data has.
@@ -141,17 +123,16 @@ fn difference_in(decimal: bool, a: &Row, b: &Row) -> Combined
 }
 
 impl Flags {
-    // With what is seen of a row; E stays.
+    // With neither carry nor overflow; E stays.
     #[inline(always)]
-    fn see_row(self, cy: bool, ovf: bool, row: Row) -> Worked
-        ensures { done_of result ≡ shown self cy ovf (bytes_of row) }
+    fn plain_row(self, row: Row) -> Worked
+        ensures { done_of self result ≡ plain self (bytes_of row) }
     {
         Worked {
             row,
-            flags: Flags {
-                status: see_row(self.status, cy, ovf, &row),
-                ..self
-            },
+            cy: false,
+            ovf: false,
+            e: self.e,
         }
     }
 
@@ -167,45 +148,54 @@ impl Flags {
     fn add_row(self, row: &Row, operand: &Row) -> Worked
         requires row { countable self.status.dcm row.now ≡ true }
         requires operand { countable self.status.dcm operand.now ≡ true }
-        ensures { done_of result ≡ summed self (bytes_of row.now) (bytes_of operand.now) }
+        ensures { done_of self result ≡ summed self (bytes_of row.now) (bytes_of operand.now) }
     {
         let operand = size(row, operand);
         let sum = sum_in(self.status.dcm, row, &operand);
-        self.see_row(sum.carried.carry, sum.carried.overflow, sum.row)
+        Worked {
+            row: sum.row,
+            cy: sum.carried.carry,
+            ovf: sum.carried.overflow,
+            e: self.e,
+        }
     }
 
     #[inline(always)]
     fn lessen_row(self, row: &Row, operand: &Row) -> Worked
         requires row { countable self.status.dcm row.now ≡ true }
         requires operand { countable self.status.dcm operand.now ≡ true }
-        ensures { done_of result ≡ lessened Less self (bytes_of row.now) (bytes_of operand.now) }
+        ensures { done_of self result ≡ lessened Less self (bytes_of row.now) (bytes_of operand.now) }
     {
         let operand = size(row, operand);
         let difference = difference_in(self.status.dcm, row, &operand);
-        self.see_row(
-            !difference.carried.carry,
-            difference.carried.overflow,
-            difference.row,
-        )
+        Worked {
+            row: difference.row,
+            cy: !difference.carried.carry,
+            ovf: difference.carried.overflow,
+            e: self.e,
+        }
     }
 }
 
 // The operation byte by byte.
+#[inline(always)]
 fn operate_bytes(
     op: Operation,
     flags: Flags,
     row: &Row,
     operand: &Row,
 ) -> Result<Worked, NotDecimal>
-    ensures { rows_done result ≡ operated op flags (bytes_of row.now) (bytes_of operand.now) }
+    ensures { rows_done flags result ≡ operated op flags (bytes_of row.now) (bytes_of operand.now) }
 {
     let n = row.len();
     let mut bytes = row.bytes();
     let others = operand.bytes();
-    let flags = operate(op, flags, &mut bytes[..n], &others[..operand.len()])?;
+    let Flags { status, e } = operate(op, flags, &mut bytes[..n], &others[..operand.len()])?;
     Ok(Worked {
         row: Row::new(bytes, n),
-        flags,
+        cy: status.cy,
+        ovf: status.ovf,
+        e,
     })
 }
 
@@ -218,18 +208,22 @@ pub fn operate_row(
     row: &Row,
     operand: &Row,
 ) -> Result<Worked, NotDecimal>
-    ensures { rows_done result ≡ operated op flags (bytes_of row.now) (bytes_of operand.now) }
+    ensures { rows_done flags result ≡ operated op flags (bytes_of row.now) (bytes_of operand.now) }
 {
+    let other = match op {
+        Operation::Increment | Operation::Decrement => Row::of_word(1, 1),
+        _ => *operand,
+    };
     match op {
-        Operation::Load => Ok(flags.see_row(false, false, size(row, operand))),
-        Operation::Test => Ok(flags.see_row(false, false, *row)),
-        Operation::Increment if flags.counts(row) => Ok(flags.add_row(row, &Row::of_word(1, 1))),
-        Operation::Decrement if flags.counts(row) => Ok(flags.lessen_row(row, &Row::of_word(1, 1))),
-        Operation::Add if flags.counts(row) && flags.counts(operand) => Ok(flags.add_row(
-            row, operand,
-        )),
-        Operation::Compare | Operation::Subtract if flags.counts(row) && flags.counts(operand) => {
-            Ok(flags.lessen_row(row, operand))
+        Operation::Load => Ok(flags.plain_row(size(row, operand))),
+        Operation::Test => Ok(flags.plain_row(*row)),
+        Operation::Increment | Operation::Add if flags.counts(row) && flags.counts(&other) => {
+            Ok(flags.add_row(row, &other))
+        }
+        Operation::Decrement | Operation::Compare | Operation::Subtract
+            if flags.counts(row) && flags.counts(&other) =>
+        {
+            Ok(flags.lessen_row(row, &other))
         }
         _ => operate_bytes(op, flags, row, operand),
     }

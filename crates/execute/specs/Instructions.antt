@@ -26,7 +26,7 @@ use Rattle.decode.specs.declared.instruction.Instruction.{Instruction}
 use Rattle.decode.specs.declared.instruction.Instruction.TheVariants.{SetArp, SetDrp, Compute, Store, Control as Alone, Call, Jump}
 use Rattle.addressing.specs.Addresses.{base_of, with_moved, address_tree}
 use Rattle.addressing.specs.Operands.{data_of, operand_tree}
-use Rattle.addressing.specs.Fetching.{Fetched, fetch_tree, passed}
+use Rattle.addressing.specs.Fetching.{Fetched, literal_tree, fetch_tree, passed}
 use Rattle.execute.specs.Conditions.{met, jumped}
 use Rattle.execute.specs.States.{with_pointers, with_status, with_e, pointed, in_mode, return_pointer, lowered, raised, saved, restored}
 use Rattle.execute.specs.Plans.{Plan, still, returning, storing, settled}
@@ -109,6 +109,10 @@ perform_tree (Jump c) s after ls = done (still 2 (jumped_to c s ls))
 -- A fetched instruction: the program counter passes it, and it goes on from there.
 abbrev pub fetched_tree : State → Fetched → Tree Plan
 fetched_tree s f = perform_tree f.instruction (passed s f) (next (pc_of s)) f.literal
+
+-- An instruction whose code was read: the bytes after the code are fetched, and it goes on from there. It does not unfold by itself.
+unfoldable pub coded_by : Instruction → State → Tree Plan
+coded_by i s = bind (literal_tree i s) (fetched_tree s)
 
 -- A whole instruction, from its fetch on.
 abbrev pub plan_tree : State → Tree Plan

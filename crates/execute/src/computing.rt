@@ -2,10 +2,12 @@
 ghost use Rattle.std.specs.Prelude.{◌≡◌};
 ghost use Rattle.byte_rows.specs.Short.{bytes_of};
 ghost use Rattle.registers.specs.Model.{state_of};
-ghost use Rattle.alu.specs.Operations.{done};
+ghost use Rattle.alu.specs.Seen.{seen};
+ghost use Rattle.alu.specs.Words.{done_of};
 ghost use Rattle.reading.specs.Readings.{ReadsBy};
 ghost use Rattle.reading.specs.Trees.{map_ok};
-ghost use Rattle.execute.specs.Instructions.{keeps as keeps_row, moved_by, with_done, computed, compute_tree};
+ghost use Rattle.execute.specs.Instructions.{flags_of, keeps as keeps_row, moved_by, with_done, computed, compute_tree};
+ghost use Rattle.execute.specs.States.{with_status};
 ghost use Rattle.execute.specs.Models.{plan_of, if_ok};
 
 use crate::executed::Executed;
@@ -35,16 +37,32 @@ pub fn move_by(cpu: &mut Cpu, mode: Option<Mode>, form: Form, literal: &Row)
     }
 }
 
-// Writes what an operation left of the data.
+// Sets the status by a row. Decimal mode alone stays, so that each other bit is written out, at its place.
 #[inline(always)]
-fn write_done(cpu: &mut Cpu, op: Operation, row: &Row, flags: Flags)
-    ensures { state_of cpu.new ≡ with_done op (state_of cpu.old) (done (bytes_of row.now) flags) }
+pub fn see(cpu: &mut Cpu, cy: bool, ovf: bool, row: &Row)
+    ensures { state_of cpu.new ≡ with_status (state_of cpu.old) (seen (state_of cpu.old).status cy ovf (bytes_of row.now)) }
+{
+    let first = row.first();
+    let last = row.last();
+    cpu.status.cy = cy;
+    cpu.status.ovf = ovf;
+    cpu.status.lsb = first % 2 == 1;
+    cpu.status.msb = last >= 128;
+    cpu.status.z = row.is_zero();
+    cpu.status.ldz = last < 16;
+    cpu.status.rdz = first % 16 == 0;
+}
+
+// Writes what an operation left.
+#[inline(always)]
+fn write_done(cpu: &mut Cpu, op: Operation, worked: Worked)
+    ensures { state_of cpu.new ≡ with_done op (state_of cpu.old) (done_of (flags_of (state_of cpu.old)) worked) }
 {
     if keeps(op) {
-        cpu.set_row(cpu.drp, *row);
+        cpu.set_row(cpu.drp, worked.row);
     }
-    cpu.status = flags.status;
-    cpu.e = flags.e % 16;
+    see(cpu, worked.cy, worked.ovf, &worked.row);
+    cpu.e = worked.e % 16;
 }
 
 // Works on the data with the operand that was read, and writes what comes of them over the pair that the mode moves.
@@ -65,9 +83,9 @@ fn compute_with(
         e: cpu.e,
     };
     let data = cpu.row(cpu.drp, form);
-    let Worked { row, flags } = operate_row(op, flags, &data, operand).map_err(Fault::NotDecimal)?;
+    let worked = operate_row(op, flags, &data, operand).map_err(Fault::NotDecimal)?;
     move_by(cpu, mode, form, literal);
-    write_done(cpu, op, &row, flags);
+    write_done(cpu, op, worked);
     Ok(Executed::still(1 + literal.count()))
 }
 

@@ -1,13 +1,11 @@
 // Carries out an instruction.
 ghost use Rattle.std.specs.Prelude.{◌≡◌};
-ghost use Rattle.byte_rows.specs.Short.{bytes_of};
 ghost use Rattle.registers.specs.Model.{state_of};
 ghost use Rattle.reading.specs.Readings.{ReadsBy};
-ghost use Rattle.reading.specs.Trees.{map_ok};
-ghost use Rattle.addressing.specs.Fetching.{passed};
-ghost use Rattle.addressing.specs.Models.{fetched_of};
-ghost use Rattle.execute.specs.Instructions.{perform_tree, fetched_tree, plan_tree};
-ghost use Rattle.execute.specs.Models.{plan_of, if_ok};
+ghost use Rattle.reading.specs.Trees.{bind, map_ok};
+ghost use Rattle.addressing.specs.Fetching.{coded_tree};
+ghost use Rattle.execute.specs.Instructions.{coded_by, fetched_tree, plan_tree};
+ghost use Rattle.execute.specs.Models.{plan_of, if_ok, but_for_the_place};
 ghost use Rattle.execute.specs.States.{pointed as pointed_by};
 
 use crate::calls::call;
@@ -16,10 +14,9 @@ use crate::controls::control;
 use crate::executed::Executed;
 use crate::jumps::jump;
 use crate::storing::store;
-use addressing::{Fetched, fetch, pass};
+use addressing::fetch_literal;
 use bus::Bus;
-use byte_rows::Row;
-use decode::{Instruction, Source};
+use decode::{Instruction, Source, decode};
 use reading::{BusReader, Fault};
 use registers::Cpu;
 
@@ -34,64 +31,79 @@ fn pointed(cpu: &Cpu, source: Source) -> u8
     }
 }
 
-// Carries out an instruction that the program counter has passed; the bytes after its code stand at `after`.
+// Carries out an instruction whose code is at the program counter. A refusal leaves all as it was but the program counter.
 #[inline(always)]
+#[tactic(auto, using(crate::proofs::Putting::put_back, crate::proofs::Putting::put_again))]
 fn perform<B: Bus>(
     reader: &mut BusReader<B>,
     cpu: &mut Cpu,
     instruction: Instruction,
-    literal: &Row,
-    after: u16,
 ) -> Result<Executed, Fault>
-    ensures outcome { ReadsBy B.Bus.meaning reader.old (perform_tree instruction (state_of cpu.old) after (bytes_of literal.now)) (map_ok (plan_of (state_of cpu.new)) result) reader.new }
-    ensures refused { state_of cpu.new ≡ if_ok result (state_of cpu.new) (state_of cpu.old) }
+    ensures outcome { ReadsBy B.Bus.meaning reader.old (coded_by instruction (state_of cpu.old)) (map_ok (plan_of (state_of cpu.new)) result) reader.new }
+    ensures refused { but_for_the_place result (state_of cpu.new) (state_of cpu.old) ≡ state_of cpu.old }
 {
     match instruction {
         Instruction::SetArp(source) => {
+            fetch_literal(reader, cpu, instruction)?;
             cpu.arp = pointed(cpu, source);
             Ok(Executed::still(1))
         }
         Instruction::SetDrp(source) => {
+            fetch_literal(reader, cpu, instruction)?;
             cpu.drp = pointed(cpu, source);
             Ok(Executed::still(1))
         }
-        Instruction::Compute(op, mode, form) => compute(reader, cpu, op, mode, form, literal),
-        Instruction::Store(mode, form) => store(reader, cpu, mode, form, literal, after),
-        Instruction::Control(code) => control(reader, cpu, code),
-        Instruction::Call(base) => call(reader, cpu, base, literal),
+        Instruction::Compute(op, mode, form) => {
+            let literal = fetch_literal(reader, cpu, instruction)?;
+            compute(reader, cpu, op, mode, form, &literal)
+        }
+        Instruction::Store(mode, form) => {
+            let after = cpu.pc().wrapping_add(1);
+            let literal = fetch_literal(reader, cpu, instruction)?;
+            store(reader, cpu, mode, form, &literal, after)
+        }
+        Instruction::Control(code) => {
+            fetch_literal(reader, cpu, instruction)?;
+            control(reader, cpu, code)
+        }
+        Instruction::Call(base) => {
+            let literal = fetch_literal(reader, cpu, instruction)?;
+            call(reader, cpu, base, &literal)
+        }
         Instruction::Jump(condition) => {
-            jump(cpu, condition, literal);
+            let literal = fetch_literal(reader, cpu, instruction)?;
+            jump(cpu, condition, &literal);
             Ok(Executed::still(2))
         }
     }
 }
 
-// Passes the fetched instruction and carries it out. A refusal leaves it passed.
+// Carries out the instruction of a code at the program counter.
 #[inline(always)]
-fn pass_and_perform<B: Bus>(
+fn perform_code<B: Bus>(
     reader: &mut BusReader<B>,
     cpu: &mut Cpu,
-    fetched: &Fetched,
+    code: u8,
 ) -> Result<Executed, Fault>
-    ensures outcome { ReadsBy B.Bus.meaning reader.old (fetched_tree (state_of cpu.old) (fetched_of fetched.now)) (map_ok (plan_of (state_of cpu.new)) result) reader.new }
-    ensures refused { state_of cpu.new ≡ if_ok result (state_of cpu.new) (passed (state_of cpu.old) (fetched_of fetched.now)) }
+    ensures outcome { ReadsBy B.Bus.meaning reader.old (bind (coded_tree code (state_of cpu.old)) (fetched_tree (state_of cpu.old))) (map_ok (plan_of (state_of cpu.new)) result) reader.new }
+    ensures refused { but_for_the_place result (state_of cpu.new) (state_of cpu.old) ≡ state_of cpu.old }
 {
-    let after = cpu.pc().wrapping_add(1);
-    pass(cpu, fetched);
-    perform(reader, cpu, fetched.instruction, &fetched.literal, after)
+    match decode(code) {
+        Some(instruction) => perform(reader, cpu, instruction),
+        None => Err(Fault::Illegal { code }),
+    }
 }
 
 // Fetches the instruction at the program counter and carries it out, up to its stores, which are all inquired about. A refusal
 // changes nothing, since it puts the program counter back.
 #[inline(always)]
-#[tactic(auto, using(crate::proofs::Putting::put_back))]
 pub fn carry_out<B: Bus>(reader: &mut BusReader<B>, cpu: &mut Cpu) -> Result<Executed, Fault>
     ensures outcome { ReadsBy B.Bus.meaning reader.old (plan_tree (state_of cpu.old)) (map_ok (plan_of (state_of cpu.new)) result) reader.new }
     ensures refused { state_of cpu.new ≡ if_ok result (state_of cpu.new) (state_of cpu.old) }
 {
-    let fetched = fetch(reader, cpu)?;
+    let code = reader.byte(cpu.pc())?;
     let place = [cpu.register(4), cpu.register(5)];
-    match pass_and_perform(reader, cpu, &fetched) {
+    match perform_code(reader, cpu, code) {
         Ok(executed) => Ok(executed),
         Err(fault) => {
             cpu.write_row(4, &place);

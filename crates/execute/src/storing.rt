@@ -8,10 +8,9 @@ ghost use Rattle.execute.specs.Instructions.{with_seen, stored_memory, stored_re
 ghost use Rattle.execute.specs.Models.{plan_of, if_ok};
 ghost use Rattle.execute.specs.Plans.{settled};
 
-use crate::computing::move_by;
+use crate::computing::{move_by, see};
 use crate::executed::Executed;
 use addressing::{address_of, base_address};
-use alu::see_row;
 use bus::Bus;
 use byte_rows::Row;
 use decode::{Form, Mode};
@@ -23,7 +22,7 @@ use registers::Cpu;
 fn see_data(cpu: &mut Cpu, row: &Row)
     ensures { state_of cpu.new ≡ with_seen (state_of cpu.old) (bytes_of row.now) }
 {
-    cpu.status = see_row(cpu.status, false, false, row);
+    see(cpu, false, false, row);
 }
 
 // Stores the data to an address that the mode gave.

@@ -49,7 +49,9 @@ impl Cpu {
     pub fn set_pair(&mut self, k: u8, value: u16)
         ensures { state_of self.new ≡ with_pair (state_of self.old) k value }
     {
-        self.write_row(k, &value.to_le_bytes());
+        let [low, high] = value.to_le_bytes();
+        self.registers[usize::from(k % 64)] = low;
+        self.registers[usize::from(k.wrapping_add(1) % 64)] = high;
     }
 
     // Fills the row with the registers from k on.

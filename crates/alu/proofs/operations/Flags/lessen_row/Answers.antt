@@ -9,4 +9,4 @@ pub difference_in-difference-requires-clause-operand : goal.difference_in-differ
 difference_in-difference-requires-clause-operand c = sized_counts c.args.self.status.dcm (length (bytes_of c.args.row.now)) c.args.operand.now c.size-operand.result c.size-operand.ensures.bytes c.requires.operand
 
 pub returns : goal.returns
-returns c = c.see_row.ensures ∙ grind (arith, c.size-operand.ensures.bytes, c.difference_in-difference.ensures.row, c.difference_in-difference.ensures.carry, c.difference_in-difference.ensures.overflow, told_sized c.args.self.status.dcm Subtract c.args.self (not) (bytes_of c.args.row.now) (bytes_of c.args.operand.now))
+returns c = grind (arith, c.size-operand.ensures.bytes, c.difference_in-difference.ensures.row, c.difference_in-difference.ensures.carry, c.difference_in-difference.ensures.overflow, told_sized c.args.self.status.dcm Subtract c.args.self (not) (bytes_of c.args.row.now) (bytes_of c.args.operand.now))
