@@ -221,10 +221,7 @@ pub fn operate_row(
             Ok(flags.add_row(row, &other))
         }
         Operation::Decrement | Operation::Compare | Operation::Subtract
-            if flags.counts(row) && flags.counts(&other) =>
-        {
-            Ok(flags.lessen_row(row, &other))
-        }
+            if flags.counts(row) && flags.counts(&other) => { Ok(flags.lessen_row(row, &other)) }
         _ => operate_bytes(op, flags, row, operand),
     }
 }

@@ -1,6 +1,8 @@
 // Carries out an instruction.
-ghost use Rattle.std.specs.Prelude.{◌≡◌};
+ghost use Rattle.std.specs.Prelude.{◌≡◌, ◌+◌, ◌%◌};
 ghost use Rattle.registers.specs.Model.{state_of};
+ghost use Rattle.registers.specs.Rows.{with_pair};
+ghost use Rattle.registers.specs.State.{pc_of};
 ghost use Rattle.reading.specs.Readings.{ReadsBy};
 ghost use Rattle.reading.specs.Trees.{bind, map_ok};
 ghost use Rattle.addressing.specs.Fetching.{coded_tree};
@@ -31,6 +33,14 @@ fn pointed(cpu: &Cpu, source: Source) -> u8
     }
 }
 
+// Moves the program counter past an instruction that is its code alone.
+#[inline(always)]
+fn pass_code(cpu: &mut Cpu)
+    ensures { state_of cpu.new ≡ with_pair (state_of cpu.old) 4 ((pc_of (state_of cpu.old) + 1) % 65536) }
+{
+    cpu.set_pair(4, cpu.pc().wrapping_add(1));
+}
+
 // Carries out an instruction whose code is at the program counter. A refusal leaves all as it was but the program counter.
 #[inline(always)]
 #[tactic(auto, using(crate::proofs::Putting::put_back, crate::proofs::Putting::put_again))]
@@ -44,12 +54,12 @@ fn perform<B: Bus>(
 {
     match instruction {
         Instruction::SetArp(source) => {
-            fetch_literal(reader, cpu, instruction)?;
+            pass_code(cpu);
             cpu.arp = pointed(cpu, source);
             Ok(Executed::still(1))
         }
         Instruction::SetDrp(source) => {
-            fetch_literal(reader, cpu, instruction)?;
+            pass_code(cpu);
             cpu.drp = pointed(cpu, source);
             Ok(Executed::still(1))
         }
@@ -63,7 +73,7 @@ fn perform<B: Bus>(
             store(reader, cpu, mode, form, &literal, after)
         }
         Instruction::Control(code) => {
-            fetch_literal(reader, cpu, instruction)?;
+            pass_code(cpu);
             control(reader, cpu, code)
         }
         Instruction::Call(base) => {
