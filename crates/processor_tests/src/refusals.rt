@@ -29,22 +29,23 @@ fn rom(bytes: &[u8]) -> Rom<'_> {
 }
 
 // No byte at the code, after it, for the operand, the pointer, or the stores of ST, JSB and SAD, and those that RTN and PAD take
-// back; and a store to ROM.
+// back; and a store to ROM. The bytes, the address that is refused, and the cause.
+const BELOW: [(&[u8], u16, Cause); 10] = [
+    (&[], 0x100, Cause::NoByte),
+    (&[0xB0, 0], 0x102, Cause::NoByte),
+    (&[0xA5, 0], 0x40, Cause::NoByte),
+    (&[0xE9, 0], 0x40, Cause::NoByte),
+    (&[0xE7, 0], 0x3E, Cause::NoByte),
+    (&[0xCE, 0x40, 0], 0x180, Cause::NoByte),
+    (&[0x9A, 0], 0x180, Cause::NoByte),
+    (&[0x9E, 0], 0x17E, Cause::NoByte),
+    (&[0x9F, 0], 0x17D, Cause::NoByte),
+    (&[0xAB, 0, 0], 0x101, Cause::RomStore),
+];
+
 #[test]
 fn by_what_is_below(rt: HostRuntime) {
-    let table = [
-        (&[][..], 0x100, Cause::NoByte),
-        (&[0xB0, 0][..], 0x102, Cause::NoByte),
-        (&[0xA5, 0][..], 0x40, Cause::NoByte),
-        (&[0xE9, 0][..], 0x40, Cause::NoByte),
-        (&[0xE7, 0][..], 0x3E, Cause::NoByte),
-        (&[0xCE, 0x40, 0][..], 0x180, Cause::NoByte),
-        (&[0x9A, 0][..], 0x180, Cause::NoByte),
-        (&[0x9E, 0][..], 0x17E, Cause::NoByte),
-        (&[0x9F, 0][..], 0x17D, Cause::NoByte),
-        (&[0xAB, 0, 0][..], 0x101, Cause::RomStore),
-    ];
-    for (bytes, address, cause) in table {
+    for (bytes, address, cause) in BELOW {
         let fault = refused(&rt, &rom(bytes), processor(0o20, 0o30));
         same(&rt, bytes, fault, by_bus(address, cause, 0));
     }
