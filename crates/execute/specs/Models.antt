@@ -7,7 +7,7 @@ use Rattle.execute.specs.declared.executed.Executed.{Executed}
 use Rattle.execute.specs.Plans.{Plan}
 
 abbrev pub plan_of : State → Executed → Plan
-plan_of s x = record { after = s; at = x.at; bytes = bytes_of x.bytes; length = x.length; returns = x.returns }
+plan_of s x = record { after = s; at = x.at; bytes = bytes_of x.bytes; size = x.length; returns = x.returns }
 
 -- A refusal leaves the state as it was.
 abbrev pub if_ok : {A B E : Type 0} → Result A E → B → B → B

@@ -1,5 +1,5 @@
--- What an instruction comes to once all is read: the processor's state after it, its stores, its length, and whether it is RTN.
-use Rattle.std.specs.Prelude.{ℕ, Bool, true, false, List, [], length as size}
+-- What an instruction comes to once all is read: the processor's state after it, its stores, its size in bytes, and whether it is RTN.
+use Rattle.std.specs.Prelude.{ℕ, Bool, true, false, List, [], length}
 use Rattle.registers.specs.State.{State}
 use Rattle.reading.specs.Trees.{Tree, done, bind}
 use Rattle.reading.specs.Readings.{stores_tree}
@@ -9,12 +9,12 @@ pub record Plan : Type 0 where
   -- The bytes are stored upward from the address.
   pub at : ℕ
   pub bytes : List ℕ
-  pub length : ℕ
+  pub size : ℕ
   pub returns : Bool
 
 -- Nothing is stored, by an instruction of l bytes.
 abbrev pub still : ℕ → State → Plan
-still l s = record { after = s; at = 0; bytes = []; length = l; returns = false }
+still l s = record { after = s; at = 0; bytes = []; size = l; returns = false }
 
 -- RTN stores nothing.
 abbrev pub returning : ℕ → State → Plan
@@ -26,4 +26,4 @@ storing l a bs s = record (still l s) { at = a; bytes = bs }
 
 -- Every store is inquired about, upward, before anything is written.
 abbrev pub settled : Plan → Tree Plan
-settled p = bind (stores_tree (size p.bytes) p.at) (λ _. done p)
+settled p = bind (stores_tree (length p.bytes) p.at) (λ _. done p)

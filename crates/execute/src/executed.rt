@@ -18,16 +18,16 @@ pub struct Executed {
 impl Executed {
     // Nothing is to be stored.
     #[inline(always)]
-    pub fn still(length: u8) -> Executed
+    pub fn still(size: u8) -> Executed
         ensures at { result.at ≡ 0 }
         ensures bytes { bytes_of result.bytes ≡ [] }
-        ensures length { result.length ≡ length }
+        ensures length { result.length ≡ size }
         ensures returns { result.returns ≡ false }
     {
         Executed {
             at: 0,
             bytes: Row::empty(),
-            length,
+            length: size,
             returns: false,
         }
     }
