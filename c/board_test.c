@@ -1,5 +1,5 @@
-// Plays a worked tape on a board, call by call, and then everything out of turn and refused; then boards are made and freed in
-// little memory. It prints what differs, and ends with status 1 if anything does.
+// Plays a worked tape on a board, call by call, and then everything out of turn and refused, and a read-out; then boards are made and
+// freed in little memory. It prints what differs, and ends with status 1 if anything does.
 #define _XOPEN_SOURCE 700
 
 #include "board.h"
@@ -189,6 +189,26 @@ static void refusals(void) {
     check("freed", board_free(&b), 0);
 }
 
+// A read-out whose parts all differ, so that none stands for another.
+static void read_out(void) {
+    // 0100: ARP is 5, DRP is 2, three times ICE, and BCD.
+    static const uint8_t program[] = {0x05, 0x42, 0x9C, 0x9C, 0x9C, 0x99};
+    board b = {0};
+    board_read_out end;
+
+    check("made", board_new(&b), 0);
+    check("loaded", board_load(&b, 0x0100, program, sizeof program), 0);
+    check("go", board_go(&b, 0x0100, 0x0400), 0);
+    check_run("six steps", &b, 6, 6, 'S', 0x0106);
+    check("the read-out", board_end(&b, &end), 0);
+    check("R4", end.registers[4], 0x06);
+    check("ARP", end.arp, 5);
+    check("DRP", end.drp, 2);
+    check("E", end.e, 3);
+    check("status", end.status, 1);
+    check("freed", board_free(&b), 0);
+}
+
 // In 64 MiB: a board takes some 40 KiB, so that boards which were not freed would fill it several times.
 static void little_memory(void) {
     enum { MANY = 8192 };
@@ -236,6 +256,7 @@ static void little_memory(void) {
 int main(void) {
     worked_tape();
     refusals();
+    read_out();
     little_memory();
     if (differ) {
         return 1;
