@@ -1,10 +1,10 @@
 // What is fetched and passed, and which stained address is told.
 use crate::same;
-use addressing::{fetch, pass, read_operand};
+use addressing::{fetch_literal, read_operand};
 use alu::Operation;
 use bus::{Bus, BusRefusal, Cause, Ram};
 use byte_rows::Row;
-use decode::{Base, Form, Instruction, Mode};
+use decode::{Base, Form, Instruction, Mode, decode};
 use reading::{BusReader, Fault};
 use registers::Cpu;
 use std::process::Abort;
@@ -20,6 +20,13 @@ fn cpu(pc: u16) -> Cpu {
 fn literal(indirect: bool) -> Option<Mode> {
     let base = Base::Literal;
     Some(Mode::Memory { base, indirect })
+}
+
+// The instruction at the program counter, which passes it, and the bytes after its code.
+fn fetch(reader: &mut BusReader<Ram>, cpu: &mut Cpu) -> Result<(Instruction, Row), Fault> {
+    let code = reader.byte(cpu.pc())?;
+    let instruction = decode(code).ok_or(Fault::Illegal { code })?;
+    Ok((instruction, fetch_literal(reader, cpu, instruction)?))
 }
 
 // How many bytes follow a code: none, an offset, an address, or as many as the data.
@@ -40,9 +47,8 @@ const LENGTHS: [(u8, u8); 11] = [
 fn try_length(rt: &impl Abort, ram: &mut Ram, code: u8, length: u8) -> Result<(), Fail> {
     same(rt, code, ram.store(0, code), Ok(()));
     let mut cpu = cpu(0);
-    let fetched = fetch(&mut BusReader::new(ram, &[]), &cpu)?;
-    same(rt, code, fetched.length(), length);
-    pass(&mut cpu, &fetched);
+    let (_, literal) = fetch(&mut BusReader::new(ram, &[]), &mut cpu)?;
+    same(rt, code, literal.count().wrapping_add(1), length);
     same(rt, code, cpu.pc(), u16::from(length));
     Ok(())
 }
@@ -65,16 +71,11 @@ fn across_the_last_address(rt: HostRuntime) -> Result<(), Fail> {
     same(&rt, "its code", ram.store(65_534, 0xB0), Ok(()));
     same(&rt, "its low byte", ram.store(65_535, 0x34), Ok(()));
     let mut after = cpu(65_534);
-    let fetched = fetch(&mut BusReader::new(&ram, &[]), &after)?;
+    let (instruction, bytes) = fetch(&mut BusReader::new(&ram, &[]), &mut after)?;
     let load = Instruction::Compute(Operation::Load, literal(false), Form::Byte);
-    same(&rt, "instruction", fetched.instruction, load);
-    same(
-        &rt,
-        "literal",
-        fetched.literal,
-        Row::new([0x34, 0x12, 0, 0, 0, 0, 0, 0], 2),
-    );
-    pass(&mut after, &fetched);
+    same(&rt, "instruction", instruction, load);
+    let address = Row::new([0x34, 0x12, 0, 0, 0, 0, 0, 0], 2);
+    same(&rt, "literal", bytes, address);
     same(&rt, "processor", after, cpu(1));
     Ok(())
 }
@@ -84,7 +85,7 @@ fn across_the_last_address(rt: HostRuntime) -> Result<(), Fail> {
 fn refused(rt: HostRuntime) -> Result<(), Fail> {
     let bytes = vec![in rt.alloc(); 0xD6u8; 2]?;
     let mut ram = Ram { base: 0, bytes };
-    let illegal = fetch(&mut BusReader::new(&ram, &[]), &cpu(1));
+    let illegal = fetch(&mut BusReader::new(&ram, &[]), &mut cpu(1));
     same(
         &rt,
         "illegal",
@@ -92,7 +93,7 @@ fn refused(rt: HostRuntime) -> Result<(), Fail> {
         true,
     );
     same(&rt, "a legal code", ram.store(0, 0xB2), Ok(()));
-    let cut_off = fetch(&mut BusReader::new(&ram, &[]), &cpu(0));
+    let cut_off = fetch(&mut BusReader::new(&ram, &[]), &mut cpu(0));
     let refusal = BusRefusal::here(Cause::NoByte);
     same(
         &rt,
@@ -137,15 +138,9 @@ fn try_told(
 ) -> Result<(), Fail> {
     let sheet = sheet(stained);
     let mut reader = BusReader::new(ram, &sheet);
-    let cpu = cpu(16);
-    let fetched = fetch(&mut reader, &cpu)?;
-    let read = read_operand(
-        &mut reader,
-        &cpu,
-        literal(true),
-        Form::Multi,
-        &fetched.literal,
-    )?;
+    let mut cpu = cpu(16);
+    let (_, pointer) = fetch(&mut reader, &mut cpu)?;
+    let read = read_operand(&mut reader, &cpu, literal(true), Form::Multi, &pointer)?;
     same(rt, stained, read.count(), 6);
     same(rt, stained, reader.told, told);
     Ok(())

@@ -145,7 +145,9 @@ fn check(rt: &impl Abort, case: &Case, op: Operation, left: Left) -> Result<(), 
     same(rt, (op, case), told, Flags { status, e: left.e });
     let worked = Worked {
         row: Row::new(after.data, case.span),
-        flags: told,
+        cy: left.cy,
+        ovf: left.ovf,
+        e: left.e,
     };
     same(rt, (op, case), case.operate_row(op), Ok(worked));
     Ok(())
