@@ -154,10 +154,9 @@ pub(crate) fn add_decimals(a: &Row, b: &Row) -> Combined
     ensures carry { result.carried.carry ≡ carry_of decimal Plus (bytes_of a.now) (bytes_of b.now) false }
     ensures overflow { result.carried.overflow ≡ false }
 {
-    let n = a.len();
     let sum = add(
-        &Row::of_word(raise(values(a.word)), n),
-        &Row::of_word(values(b.word), n),
+        &a.with_word(raise(values(a.word))),
+        &b.with_word(values(b.word)),
     );
     sum.counted()
 }
@@ -172,11 +171,7 @@ pub(crate) fn subtract_decimals(a: &Row, b: &Row) -> Combined
     ensures carry { result.carried.carry ≡ carry_of decimal Less (bytes_of a.now) (bytes_of b.now) false }
     ensures overflow { result.carried.overflow ≡ false }
 {
-    let n = a.len();
-    let difference = subtract(
-        &Row::of_word(values(a.word), n),
-        &Row::of_word(values(b.word), n),
-    );
+    let difference = subtract(&a.with_word(values(a.word)), &b.with_word(values(b.word)));
     difference.counted()
 }
 
@@ -190,7 +185,7 @@ impl Combined {
         ensures overflow { result.carried.overflow ≡ false }
     {
         Combined {
-            row: Row::of_word(outcome_digits(self.row.word), self.row.len()),
+            row: self.row.with_word(outcome_digits(self.row.word)),
             carried: Carried {
                 carry: self.carried.carry,
                 overflow: false,

@@ -39,7 +39,7 @@ fn size(row: &Row, operand: &Row) -> Row
     ensures len { result.len ≡ row.now.len }
     ensures bytes { bytes_of result ≡ sized (length (bytes_of row.now)) (bytes_of operand.now) }
 {
-    Row::of_word(operand.word, row.len())
+    row.with_word(operand.word)
 }
 
 // A sum in binary, of rows of one length.
@@ -50,7 +50,7 @@ pub(crate) fn add(a: &Row, b: &Row) -> Combined
     ensures carry { result.carried.carry ≡ carry_of binary Plus (bytes_of a.now) (bytes_of b.now) false }
     ensures overflow { result.carried.overflow ≡ overflow_of Plus (bytes_of a.now) (bytes_of b.now) }
 {
-    let row = Row::of_word(a.word.wrapping_add(b.word), a.len());
+    let row = a.with_word(a.word.wrapping_add(b.word));
     Combined {
         row,
         carried: Carried {
@@ -73,7 +73,7 @@ pub(crate) fn subtract(a: &Row, b: &Row) -> Combined
     ensures carry { result.carried.carry ≡ carry_of binary Less (bytes_of a.now) (bytes_of b.now) false }
     ensures overflow { result.carried.overflow ≡ overflow_of Less (bytes_of a.now) (bytes_of b.now) }
 {
-    let row = Row::of_word(a.word.wrapping_sub(b.word), a.len());
+    let row = a.with_word(a.word.wrapping_sub(b.word));
     Combined {
         row,
         carried: Carried {

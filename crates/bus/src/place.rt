@@ -8,9 +8,8 @@ use crate::refusal::{BusRefusal, Cause};
 pub fn place(base: u16, size: usize, address: u16) -> Result<usize, BusRefusal>
     ensures { result ≡ place_of base size address }
 {
-    address
-        .checked_sub(base)
-        .map(usize::from)
-        .filter(|&i| i < size)
-        .ok_or(BusRefusal::here(Cause::NoByte))
+    match address.checked_sub(base).map(usize::from) {
+        Some(i) if i < size => Ok(i),
+        _ => Err(BusRefusal::here(Cause::NoByte)),
+    }
 }

@@ -40,6 +40,20 @@ impl Row {
         }
     }
 
+    // The lowest bytes of a number, as many as this row has.
+    #[inline(always)]
+    #[tactic(auto, using(crate::proofs::Lows::low_cut))]
+    pub fn with_word(&self, word: u64) -> Row
+        ensures word { result.word ≡ word % 2 ^ (8 * self.now.len) }
+        ensures len { result.len ≡ self.now.len }
+        ensures bytes { bytes_of result ≡ low_bytes self.now.len word }
+    {
+        Row {
+            word: cut(word, self.len),
+            len: self.len,
+        }
+    }
+
     // The first n of the bytes.
     #[inline(always)]
     pub fn new(bytes: [u8; 8], n: usize) -> Row

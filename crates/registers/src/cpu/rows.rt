@@ -50,8 +50,8 @@ impl Cpu {
         ensures { state_of self.new ≡ with_pair (state_of self.old) k value }
     {
         let [low, high] = value.to_le_bytes();
-        self.registers[usize::from(k % 64)] = low;
-        self.registers[usize::from(k.wrapping_add(1) % 64)] = high;
+        self.registers[usize::from(k) % 64] = low;
+        self.registers[(usize::from(k) + 1) % 64] = high;
     }
 
     // Fills the row with the registers from k on.

@@ -1,5 +1,4 @@
-use Rattle.std.proofs.Common.{◌≡◌, ◌∙◌, min, arith}
-use Rattle.byte_rows.proofs.Lows.{length_low}
+use Rattle.std.proofs.Common.{◌∙◌, refl, sym}
 use Rattle.alu.proofs.Values.{values_row, operand_row, difference_is, difference_digits, difference_out}
 use Rattle.alu.proofs.decimals.subtract_decimals.Goals as goal
 
@@ -7,27 +6,24 @@ pub counted-requires : goal.counted-requires
 counted-requires c =
     let a = c.args.a.now in
     let b = c.args.b.now in
-    let k : min c.len-n.result 8 ≡ a.len = grind (arith, c.len-n.ensures.value, length_low a.len a.word, a.short) in
     difference_is a b c.requires.same c.requires.data c.requires.operand _ _
-    (c.of_word.ensures.bytes ∙ values_row a b c.requires.same c.requires.data c.requires.operand _ c.values.result k c.values.ensures)
-    (c.of_word-2.ensures.bytes ∙ operand_row a b c.requires.same c.requires.data c.requires.operand _ c.values-2.result k c.values-2.ensures)
+    (c.with_word.ensures.bytes ∙ values_row a b c.requires.same c.requires.data c.requires.operand _ c.values.result refl c.values.ensures)
+    (c.with_word-2.ensures.bytes ∙ operand_row a b c.requires.same c.requires.data c.requires.operand _ c.values-2.result (sym c.requires.same) c.values-2.ensures)
     c.subtract-difference.result.row c.subtract-difference.ensures.row
 
 pub returns-clause-row : goal.returns-clause-row
 returns-clause-row c =
     let a = c.args.a.now in
     let b = c.args.b.now in
-    let k : min c.len-n.result 8 ≡ a.len = grind (arith, c.len-n.ensures.value, length_low a.len a.word, a.short) in
     c.counted.ensures.row ∙ difference_digits a b c.requires.same c.requires.data c.requires.operand _ _
-    (c.of_word.ensures.bytes ∙ values_row a b c.requires.same c.requires.data c.requires.operand _ c.values.result k c.values.ensures)
-    (c.of_word-2.ensures.bytes ∙ operand_row a b c.requires.same c.requires.data c.requires.operand _ c.values-2.result k c.values-2.ensures)
+    (c.with_word.ensures.bytes ∙ values_row a b c.requires.same c.requires.data c.requires.operand _ c.values.result refl c.values.ensures)
+    (c.with_word-2.ensures.bytes ∙ operand_row a b c.requires.same c.requires.data c.requires.operand _ c.values-2.result (sym c.requires.same) c.values-2.ensures)
     _ c.subtract-difference.ensures.row
 
 pub returns-clause-carry : goal.returns-clause-carry
 returns-clause-carry c =
     let a = c.args.a.now in
     let b = c.args.b.now in
-    let k : min c.len-n.result 8 ≡ a.len = grind (arith, c.len-n.ensures.value, length_low a.len a.word, a.short) in
     c.counted.ensures.carry ∙ c.subtract-difference.ensures.carry ∙ difference_out a b c.requires.same c.requires.data c.requires.operand _ _
-    (c.of_word.ensures.bytes ∙ values_row a b c.requires.same c.requires.data c.requires.operand _ c.values.result k c.values.ensures)
-    (c.of_word-2.ensures.bytes ∙ operand_row a b c.requires.same c.requires.data c.requires.operand _ c.values-2.result k c.values-2.ensures)
+    (c.with_word.ensures.bytes ∙ values_row a b c.requires.same c.requires.data c.requires.operand _ c.values.result refl c.values.ensures)
+    (c.with_word-2.ensures.bytes ∙ operand_row a b c.requires.same c.requires.data c.requires.operand _ c.values-2.result (sym c.requires.same) c.values-2.ensures)

@@ -1,7 +1,7 @@
 use Rattle.std.proofs.Common.{◌≡◌, ◌++◌, Ok, length, take, drop, ap, sym, ◌∙◌}
 use Rattle.std.proofs.Math.Seq.{take-append_seam}
 use Rattle.byte_rows.specs.Short.{bytes_of}
-use Rattle.alu.specs.Operations.{done, operated}
+use Rattle.alu.specs.Operations.{done}
 use Rattle.alu.proofs.Shows.{operated_shows}
 use Rattle.alu.proofs.words.operate_bytes.Goals as goal
 

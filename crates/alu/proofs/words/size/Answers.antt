@@ -1,13 +1,11 @@
-use Rattle.std.proofs.Common.{◌≡◌, ◌∙◌, min, length, ap, sym, arith}
+use Rattle.std.proofs.Common.{◌∙◌, length, ap, sym}
 use Rattle.byte_rows.specs.Short.{low_bytes, bytes_of}
 use Rattle.byte_rows.proofs.Lows.{length_low}
 use Rattle.alu.proofs.Wholes.{sized_low}
 use Rattle.alu.proofs.words.size.Goals as goal
 
-pub returns-clause-len : goal.returns-clause-len
-returns-clause-len c = grind (arith, c.of_word.ensures.len, c.len.ensures.value, c.len.ensures.few, length_low c.args.row.now.len c.args.row.now.word)
-
 pub returns-clause-bytes : goal.returns-clause-bytes
 returns-clause-bytes c =
-    let n : min c.len.result 8 ≡ length (bytes_of c.args.row.now) = grind (arith, c.len.ensures.value, c.len.ensures.few) in
-    c.of_word.ensures.bytes ∙ ap (λ k. low_bytes k c.args.operand.now.word) n ∙ sym (sized_low (length (bytes_of c.args.row.now)) c.args.operand.now.len c.args.operand.now.word c.args.operand.now.cut)
+    let row = c.args.row.now in
+    let operand = c.args.operand.now in
+    c.with_word.ensures.bytes ∙ ap (λ n. low_bytes n operand.word) (sym (length_low row.len row.word)) ∙ sym (sized_low (length (bytes_of row)) operand.len operand.word operand.cut)

@@ -1,4 +1,4 @@
-use Rattle.std.proofs.Common.{◌∙◌, not, length, arith}
+use Rattle.std.proofs.Common.{not, length, arith}
 use Rattle.byte_rows.specs.Short.{bytes_of}
 use Rattle.counting.specs.declared.Link.TheVariants.{Subtract}
 use Rattle.alu.proofs.Wholes.{told_sized}
