@@ -8,8 +8,10 @@ use crate::refusal::{BusRefusal, Cause};
 pub fn place(base: u16, size: usize, address: u16) -> Result<usize, BusRefusal>
     ensures { result ≡ place_of base size address }
 {
-    match address.checked_sub(base).map(usize::from) {
-        Some(i) if i < size => Ok(i),
-        _ => Err(BusRefusal::here(Cause::NoByte)),
+    let i = usize::from(address.wrapping_sub(base));
+    if base <= address && i < size {
+        Ok(i)
+    } else {
+        Err(BusRefusal::here(Cause::NoByte))
     }
 }
