@@ -17,7 +17,7 @@ use bus::Bus;
 use byte_rows::Row;
 use decode::{Form, Mode};
 use reading::{BusReader, Fault};
-use registers::Cpu;
+use registers::{Cpu, Status};
 
 // A test and a comparison leave only status and E.
 #[inline(always)]
@@ -34,6 +34,37 @@ pub fn move_by(cpu: &mut Cpu, mode: Option<Mode>, form: Form, literal: &Row)
 {
     if let Some(Mode::Memory { base, indirect }) = mode {
         move_pair(cpu, base, indirect, form, literal);
+    }
+}
+
+// What an operation finds of the status and E. The status is taken bit by bit, as it was written: its bytes taken together would
+// have to wait for all of them.
+#[inline(always)]
+fn flags(cpu: &Cpu) -> Flags
+    ensures { result ≡ flags_of (state_of cpu.now) }
+{
+    let Status {
+        dcm,
+        cy,
+        ovf,
+        lsb,
+        msb,
+        z,
+        ldz,
+        rdz,
+    } = cpu.status;
+    Flags {
+        status: Status {
+            dcm,
+            cy,
+            ovf,
+            lsb,
+            msb,
+            z,
+            ldz,
+            rdz,
+        },
+        e: cpu.e,
     }
 }
 
@@ -78,12 +109,8 @@ fn compute_with(
     ensures outcome { map_ok (plan_of (state_of cpu.new)) result ≡ computed op mode form (state_of cpu.old) (bytes_of literal.now) (bytes_of operand.now) }
     ensures refused { state_of cpu.new ≡ if_ok result (state_of cpu.new) (state_of cpu.old) }
 {
-    let flags = Flags {
-        status: cpu.status,
-        e: cpu.e,
-    };
     let data = cpu.row(cpu.drp, form);
-    let worked = operate_row(op, flags, &data, operand).map_err(Fault::NotDecimal)?;
+    let worked = operate_row(op, flags(cpu), &data, operand).map_err(Fault::NotDecimal)?;
     move_by(cpu, mode, form, literal);
     write_done(cpu, op, worked);
     Ok(Executed::still(1 + literal.count()))

@@ -7,30 +7,30 @@ ghost use Rattle.execute.specs.Instructions.{jumped_to};
 
 use byte_rows::Row;
 use decode::Condition;
-use registers::{Cpu, Status};
+use registers::Cpu;
 
-// Whether a jump is taken.
+// Whether a jump is taken. It looks at single bits where they stand, as they were written.
 #[inline(always)]
-fn is_met(condition: Condition, status: Status, e: u8) -> bool
-    ensures { result ≡ met condition status e }
+fn is_met(condition: Condition, cpu: &Cpu) -> bool
+    ensures { result ≡ met condition (state_of cpu.now).status (state_of cpu.now).e }
 {
     match condition {
         Condition::Always => true,
-        Condition::NoOverflow => !status.ovf,
-        Condition::Odd => status.lsb,
-        Condition::Even => !status.lsb,
-        Condition::Negative => status.msb != status.ovf,
-        Condition::Positive => status.msb == status.ovf,
-        Condition::NotZero => !status.z,
-        Condition::Zero => status.z,
-        Condition::ENotZero => e != 0,
-        Condition::EZero => e == 0,
-        Condition::NoCarry => !status.cy,
-        Condition::Carry => status.cy,
-        Condition::LeftZero => status.ldz,
-        Condition::LeftNotZero => !status.ldz,
-        Condition::RightZero => status.rdz,
-        Condition::RightNotZero => !status.rdz,
+        Condition::NoOverflow => !cpu.status.ovf,
+        Condition::Odd => cpu.status.lsb,
+        Condition::Even => !cpu.status.lsb,
+        Condition::Negative => cpu.status.msb != cpu.status.ovf,
+        Condition::Positive => cpu.status.msb == cpu.status.ovf,
+        Condition::NotZero => !cpu.status.z,
+        Condition::Zero => cpu.status.z,
+        Condition::ENotZero => cpu.e != 0,
+        Condition::EZero => cpu.e == 0,
+        Condition::NoCarry => !cpu.status.cy,
+        Condition::Carry => cpu.status.cy,
+        Condition::LeftZero => cpu.status.ldz,
+        Condition::LeftNotZero => !cpu.status.ldz,
+        Condition::RightZero => cpu.status.rdz,
+        Condition::RightNotZero => !cpu.status.rdz,
     }
 }
 
@@ -47,7 +47,7 @@ fn target(pc: u16, offset: u8) -> u16
 pub fn jump(cpu: &mut Cpu, condition: Condition, literal: &Row)
     ensures { state_of cpu.new ≡ jumped_to condition (state_of cpu.old) (bytes_of literal.now) }
 {
-    if is_met(condition, cpu.status, cpu.e) {
+    if is_met(condition, cpu) {
         let to = target(cpu.pc(), literal.first());
         cpu.set_pair(4, to);
     }
