@@ -210,6 +210,7 @@ pub fn operate_row(
 ) -> Result<Worked, NotDecimal>
     ensures { rows_done flags result ≡ operated op flags (bytes_of row.now) (bytes_of operand.now) }
 {
+    // IC and DC work with 1.
     let other = match op {
         Operation::Increment | Operation::Decrement => Row::of_word(1, 1),
         _ => *operand,
