@@ -2,7 +2,7 @@
 // clauses say what is written where they answer Ok, and none says that they do, while `put` fails for want of room alone.
 #![tactic(auto)]
 
-ghost use Rattle.std.specs.Prelude.{◌≡◌, ◌+◌, ◌<◌, ◌≤◌, length, is_some, IfSome, if◌then◌else◌, Some, None, nat_le};
+ghost use Rattle.std.specs.Prelude.{◌≡◌, ◌+◌, ◌-◌, ◌<◌, ◌≤◌, length, is_some, IfSome, if◌then◌else◌, Some, None, nat_le};
 ghost use Rattle.byte_rows.specs.Rows.{over};
 ghost use Rattle.text.specs.Pieces.{hex_digit, hex2, spelled, joined, widest, room, one_apart};
 ghost use Rattle.text.specs.Line.{HasRoom, Wrote};
@@ -33,9 +33,7 @@ pub fn put(out: &mut [u8], at: usize, pieces: &[Piece]) -> Option<usize>
     ensures after { out.new ≡ (if is_some result then over out.old at (joined pieces.now) else out.old) }
     ensures room { IfSome result (λ n. n ≤ at + room pieces.now) }
 {
-    if out.len().checked_sub(at)? < room_of(pieces)? {
-        return None;
-    }
+    room_after(out.len().checked_sub(at)?, pieces)?;
     let mut line = Line { out, at };
     for piece in pieces {
         line.put(*piece);
@@ -43,13 +41,16 @@ pub fn put(out: &mut [u8], at: usize, pieces: &[Piece]) -> Option<usize>
     Some(line.at)
 }
 
-// How many bytes the pieces have at their widest, if a usize holds that.
-fn room_of(pieces: &[Piece]) -> Option<usize>
-    ensures { result ≡ (if nat_le (room pieces.now) usize.MAX then Some (room pieces.now) else None) }
+// How much room is left after the pieces at their widest, if they have room. It stops at the first piece that has none, which a
+// proof does not learn of `try_fold` with `checked_sub`.
+fn room_after(size: usize, pieces: &[Piece]) -> Option<usize>
+    ensures { result ≡ (if nat_le (room pieces.now) size then Some (size - room pieces.now) else None) }
 {
-    pieces
-        .iter()
-        .try_fold(0usize, |room, piece| room.checked_add(piece.widest()))
+    let mut left = size;
+    for piece in pieces {
+        left = left.checked_sub(piece.widest())?;
+    }
+    Some(left)
 }
 
 impl Piece {
