@@ -73,9 +73,9 @@ impl<B: Bus> Bus for Pile<B> {
             } else {
                 split.high.read(address)
             }),
-            Pile::Shadow(shadow) => match shadow.page.byte(address) {
+            Pile::Shadow(shadow) => match shadow.byte(address) {
                 Some(byte) => Ok(byte),
-                None => raise(shadow.below.read(address)),
+                None => raise(shadow.below().read(address)),
             },
         }
     }
@@ -92,7 +92,7 @@ impl<B: Bus> Bus for Pile<B> {
             } else {
                 split.high.inquire(address)
             }),
-            Pile::Shadow(shadow) => shadow.page.inquire(shadow.below.read(address), address),
+            Pile::Shadow(shadow) => shadow.admit(shadow.below().read(address), address),
         }
     }
 
@@ -109,7 +109,7 @@ impl<B: Bus> Bus for Pile<B> {
             } else {
                 split.high.store(address, byte)
             }),
-            Pile::Shadow(shadow) => { shadow.page.store(shadow.below.read(address), address, byte) }
+            Pile::Shadow(shadow) => { shadow.keep(shadow.below().read(address), address, byte) }
         }
     }
 }
