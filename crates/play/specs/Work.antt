@@ -57,9 +57,9 @@ pub record Worked : Type 0 where
   pub after : Scene
 
 -- A refused record ends the tape.
-abbrev pub worked : Result (Phase × Event) Refusal → List ℕ → Meaning → Worked
-worked (Ok p) s m = record { outcome = Ok p.1; after = scene (stage_of p.0) s m }
-worked (Err r) s m = record { outcome = Err r; after = scene refused s m }
+abbrev pub worked : Result Event Refusal → Stage → List ℕ → Meaning → Worked
+worked (Ok e) g s m = record { outcome = Ok e; after = scene g s m }
+worked (Err r) g s m = record { outcome = Err r; after = scene refused s m }
 
 abbrev pub load_outcome : Result (Unit {0}) LoadFault → Result Event Refusal
 load_outcome (Ok _) = Ok Loaded

@@ -9,6 +9,8 @@ use engine::{Cold, Live};
 use memory::Memory;
 use tape::{Record, TapeFault, Turn};
 
+const OUT_OF_TURN: Refusal = Refusal::Tape(TapeFault::OutOfTurn);
+
 #[derive(Drop, PartialEq, Eq, Debug)]
 pub enum Phase {
     Loading(Cold),
@@ -29,40 +31,53 @@ impl Phase {
         }
     }
 
-    // The phase is used up, and the next one comes out, unless the record is refused.
+    // Works the record, and leaves the phase that comes of it. Of a refused one only the refusal counts, since it ends the tape. An
+    // exchange that goes on is worked where it is: to move it out and back takes longer than a load.
     pub(crate) fn work(
-        self,
+        &mut self,
         item: Record,
         memory: &mut Memory,
         sheet: &mut [u8],
-    ) -> Result<(Phase, Event), Refusal>
-        ensures { worked result sheet.new (meaning_of memory.new) ≡ work_of (entry_of item.entry) (scene (stage_of self) sheet.old (meaning_of memory.old)) }
+    ) -> Result<Event, Refusal>
+        ensures { worked result (stage_of self.new) sheet.new (meaning_of memory.new) ≡ work_of (entry_of item.entry) (scene (stage_of self.old) sheet.old (meaning_of memory.old)) }
     {
-        match (self, item) {
-            (Phase::Loading(exchange), Record::Load { address, bytes, .. }) => {
+        match item {
+            Record::Load { address, bytes, .. } => {
+                let Phase::Loading(exchange) = self else {
+                    return Err(OUT_OF_TURN);
+                };
                 exchange.load(memory, address, bytes)?;
-                Ok((Phase::Loading(exchange), Event::Loaded))
+                Ok(Event::Loaded)
             }
-            (Phase::Loading(exchange), Record::Go { pc, return_pointer }) => {
-                Ok((
-                    Phase::InService(exchange.go(memory, pc, return_pointer)),
-                    Event::Began,
-                ))
+            Record::Go { pc, return_pointer } => {
+                let Phase::Loading(exchange) = std::mem::replace(self, Phase::Refused) else {
+                    return Err(OUT_OF_TURN);
+                };
+                *self = Phase::InService(exchange.go(memory, pc, return_pointer));
+                Ok(Event::Began)
             }
-            (Phase::InService(mut exchange), Record::Run { steps }) => {
+            Record::Run { steps } => {
+                let Phase::InService(exchange) = self else {
+                    return Err(OUT_OF_TURN);
+                };
                 let report = exchange.run(memory, sheet, steps)?;
                 let pc = exchange.pc();
-                Ok((Phase::InService(exchange), Event::Ran { report, pc }))
+                Ok(Event::Ran { report, pc })
             }
-            (Phase::InService(mut exchange), Record::Ring { vector }) => {
+            Record::Ring { vector } => {
+                let Phase::InService(exchange) = self else {
+                    return Err(OUT_OF_TURN);
+                };
                 let outcome = exchange.ring(memory, sheet, u16::from(vector));
                 let pc = exchange.pc();
-                Ok((Phase::InService(exchange), Event::Rang { outcome, pc }))
+                Ok(Event::Rang { outcome, pc })
             }
-            (Phase::InService(exchange), Record::End) => {
-                Ok((Phase::Ended, Event::Ended(exchange.end())))
+            Record::End => {
+                let Phase::InService(exchange) = std::mem::replace(self, Phase::Ended) else {
+                    return Err(OUT_OF_TURN);
+                };
+                Ok(Event::Ended(exchange.end()))
             }
-            _ => Err(Refusal::Tape(TapeFault::OutOfTurn)),
         }
     }
 }

@@ -61,13 +61,19 @@ impl<'a> Player<'a> {
         ensures after { world_of self.new sheet.new (meaning_of memory.new) ≡ (handled_of (tape_of self.old) (world_of self.old sheet.old (meaning_of memory.old))).after }
         ensures tape { tape_of self.new ≡ tape_of self.old }
     {
-        let next = self.next(sheet);
-        let phase = std::mem::replace(&mut self.phase, Phase::Refused);
-        let item = next?;
-        let (phase, event) = phase.work(item, memory, sheet)?;
-        self.phase = phase;
-        self.reader.pass(item);
-        Ok(event)
+        let item = match self.next(sheet) {
+            Ok(item) => item,
+            Err(refusal) => {
+                self.phase = Phase::Refused;
+                return Err(refusal);
+            }
+        };
+        let outcome = self.phase.work(item, memory, sheet);
+        match outcome {
+            Ok(_) => self.reader.pass(item),
+            Err(_) => self.phase = Phase::Refused,
+        }
+        outcome
     }
 
     // Plays one record, and writes its lines at the front of the buffer; the rest of the buffer stays.
