@@ -6,7 +6,7 @@ use Rattle.byte_rows.proofs.Writing.{length_over, get_or_over}
 use Rattle.bus.specs.Meaning.{loaded}
 use Rattle.bus.specs.Kinds.{ram_meaning, holds}
 
-ram_loaded : (base a : ℕ) (bs s : List ℕ) → base ≤ a → (a - base) + length s ≤ length bs → a + length s ≤ 65536 → ram_meaning base (over bs (a - base) s) ≡ loaded (ram_meaning base bs) a s
+pub ram_loaded : (base a : ℕ) (bs s : List ℕ) → base ≤ a → a + length s ≤ 65536 → (a - base) + length s ≤ length bs → ram_meaning base (over bs (a - base) s) ≡ loaded (ram_meaning base bs) a s
 ram_loaded base a bs s h k l = grind (arith, nat_tests, length_over, get_or_over)
 
 -- the meaning after a load that was taken or not

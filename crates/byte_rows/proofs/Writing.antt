@@ -1,10 +1,10 @@
 -- What stands in a row after bytes were written over it.
-use Rattle.std.proofs.Common.{◌≡◌, ℕ, suc, ◌+◌, ◌-◌, ◌≤◌, ◌&&◌, leb, ltb, List, [], ◌∷◌, ◌++◌, cond, length, get_or, take, drop, replicate, set, sym, refl, ap, ◌∙◌, add-zero, add-suc, suc-add, arith}
+use Rattle.std.proofs.Common.{◌≡◌, ℕ, suc, ◌+◌, ◌-◌, ◌<◌, ◌≤◌, ◌&&◌, leb, ltb, List, [], ◌∷◌, ◌++◌, cond, length, get_or, take, drop, replicate, set, sym, refl, ap, ◌∙◌, add-zero, add-suc, suc-add, arith}
 use lib.Seq.{sets, sets-eq, length-sets, take-length}
 use borrow.Rule.Slice.PartMut.{put_mid}
 use Rattle.std.proofs.lemmas.Bool.Decides.{nat_tests}
 use Rattle.std.proofs.lemmas.Grind.{elements}
-use Rattle.std.proofs.lemmas.List.{take_at}
+use Rattle.std.proofs.lemmas.List.{get_or-set_other, take_at}
 use Rattle.std.proofs.lemmas.Slice.{put_mid-paste}
 use Rattle.byte_rows.specs.Rows.{over, zeros}
 
@@ -32,6 +32,17 @@ over_part row i k ys s e n h = put_mid-paste i k row ys s (length s) e n refl �
 -- each byte after a write
 pub get_or_over : (row : List ℕ) (i : ℕ) (s : List ℕ) (x : ℕ) → i + length s ≤ length row → get_or (over row i s) x 0 ≡ cond (leb i x && ltb x (i + length s)) (get_or s (x - i) 0) (get_or row x 0)
 get_or_over row i s x h = ap (λ l. get_or l x 0) (over_sets row i s ∙ sets-eq s row i h) ∙ grind (arith, elements, nat_tests)
+
+-- Below the bytes written and past them stands what was there, also where they run past the end. For who builds on this crate.
+pub get_or_over_before : (row : List ℕ) (i : ℕ) (s : List ℕ) (x : ℕ) → x < i → get_or (over row i s) x 0 ≡ get_or row x 0
+unfolding over
+get_or_over_before row i [] x h = refl
+get_or_over_before row i (b ∷ s) x h = get_or_over_before (set row i b) (suc i) s x (omega arith) ∙ get_or-set_other row i x b 0 (omega arith)
+
+pub get_or_over_after : (row : List ℕ) (i : ℕ) (s : List ℕ) (x : ℕ) → i + length s ≤ x → get_or (over row i s) x 0 ≡ get_or row x 0
+unfolding over
+get_or_over_after row i [] x h = refl
+get_or_over_after row i (b ∷ s) x h = get_or_over_after (set row i b) (suc i) s x (omega arith) ∙ get_or-set_other row i x b 0 (omega arith)
 
 -- what stands at the front after a write there
 pub over_front : (row s : List ℕ) → length s ≤ length row → take (length s) (over row 0 s) ≡ s
