@@ -10,22 +10,27 @@ use Rattle.counting.specs.Chain.{linked, first, others, row_of, carry_of}
 use Rattle.counting.specs.System.{System, bit, number, Lawful}
 use Rattle.counting.proofs.Binaries.{binary_laws}
 use Rattle.counting.proofs.Numbers.{balance, row_lawful, row_length, row_below, first_lawful, others_lawful, number_below}
-use Rattle.alu.specs.Seen.{sized, negative}
+use Rattle.alu.specs.Seen.{last_of, sized, negative}
 use Rattle.alu.specs.Sums.{overflow_of, signs_of}
 use Rattle.alu.proofs.Overflow.{sum_tells, difference_tells, negation_tells}
 
-sized_length : (n : ℕ) (ys : List ℕ) → length (sized n ys) ≡ n
+pub sized_length : (n : ℕ) (ys : List ℕ) → length (sized n ys) ≡ n
 sized_length zero ys = refl
 sized_length (suc n) ys = ap suc (sized_length n (others ys))
 
-sized_at : (n : ℕ) (ys : List ℕ) (i : ℕ) → i < n → get_or (sized n ys) i 0 ≡ get_or ys i 0
+pub sized_at : (n : ℕ) (ys : List ℕ) (i : ℕ) → i < n → get_or (sized n ys) i 0 ≡ get_or ys i 0
 sized_at zero ys i h = absurd (omega arith)
 sized_at (suc n) ys zero h = refl
 sized_at (suc n) ys (suc i) h = sized_at n (others ys) i (omega arith) ∙ get_or_after_one ys i 0 ∙ ap (λ k. get_or ys k 0) (omega arith)
 
-sized_lawful : (n : ℕ) (ys : List ℕ) → Lawful binary ys → Lawful binary (sized n ys)
+pub sized_lawful : (n : ℕ) (ys : List ℕ) → Lawful binary ys → Lawful binary (sized n ys)
 sized_lawful zero ys h = tt
 sized_lawful (suc n) ys h = (first_lawful binary binary_laws ys h, sized_lawful n (others ys) (others_lawful binary binary_laws ys h))
+
+-- for who builds on this crate
+pub sized_same : (xs : List ℕ) → sized (length xs) xs ≡ xs
+sized_same [] = refl
+sized_same (x ∷ xs) = ap (λ t. x ∷ t) (sized_same xs)
 
 -- a chain looks at its operand as at one of the data's length
 pub row_sized : (s : System) (l : Link) (xs ys : List ℕ) (c : Bool) → row_of s l xs ys c ≡ row_of s l xs (sized (length xs) ys) c
@@ -44,6 +49,11 @@ top x (y ∷ ys) (here, rest) = top y ys rest ∙ rw pow-suc (grind (arith, nat_
 negative_half : (xs : List ℕ) → Lawful binary xs → negative (length xs) xs ≡ leb (256 ^ length xs) (2 * number binary xs)
 negative_half [] h = refl
 negative_half (x ∷ xs) h = rw (lt-ltb 0 (length (x ∷ xs)) (omega arith), sub-one, pow-suc) (top x xs h)
+
+-- for who builds on this crate
+pub top_half : (xs : List ℕ) → Lawful binary xs → leb 128 (last_of xs) ≡ leb (256 ^ length xs) (2 * number binary xs)
+top_half [] h = refl
+top_half (x ∷ xs) h = rw (sub-one, pow-suc) (top x xs h)
 
 negative_sized : (n : ℕ) (ys : List ℕ) → negative n ys ≡ negative n (sized n ys)
 negative_sized zero ys = refl

@@ -27,7 +27,7 @@ more Negate b p x y v a k n c d e one rest = omega (arith, step b p 0 (n + a) 0 
 more Complement b p x y v a k n c d e one rest = (omega (arith, step b p 0 (n + a) 0 (v + x) 1 1 1 (omega (arith, one.0)) (omega (arith, rest.0)), mul-add b n a), rest.1 ∙ one.1)
 
 -- what a number and a carry out say of remainder and quotient
-parts : (n p c all : ℕ) → n < p → n + p * c ≡ all → (n ≡ all % p) × (c ≡ all / p)
+pub parts : (n p c all : ℕ) → n < p → n + p * c ≡ all → (n ≡ all % p) × (c ≡ all / p)
 parts n p c all h e =
     let turn : all ≡ c * p + n = omega (arith, e, mul_comm p c) in
     rw turn (sym (mod-mul-add c p n h), sym (div-mul-add c p n h))
@@ -110,6 +110,14 @@ module _ (s : System) (w : Laws s) where
       let d = (linked s l x (first ys) c).1 in
       rw (pow-suc, number_first ys)
       (more l s.base (s.base ^ length xs) _ _ _ _ _ _ c d _ (link_balanced l x (first ys) c here (first_lawful ys k)) (balance l xs (others ys) d rest (others_lawful ys k) (omega (arith, length-drop 1 ys))))
+
+  -- Negating looks at no operand, so that it may be any. For who builds on this crate.
+  pub negation : (xs ys : List ℕ) (c : Bool) → Lawful s xs → number s (row_of s Negate xs ys c) + number s xs + bit c ≡ s.base ^ length xs * bit (carry_of s Negate xs ys c)
+  negation [] ys c h = simp pow-zero (none_balanced Negate 0 c refl)
+  negation (x ∷ xs) ys c (here, rest) =
+      let d = (linked s Negate x (first ys) c).1 in
+      rw pow-suc
+      (more Negate s.base (s.base ^ length xs) (s.value x) 0 _ (number s xs) 0 _ c d _ (link_balanced Negate x 0 c here zero_lawful) (negation xs (others ys) d rest))
 
   module _ (xs ys : List ℕ) (c : Bool) (h : Lawful s xs) (k : Lawful s ys) (short : length ys ≤ length xs) where
     pub row_below : (l : Link) → number s (row_of s l xs ys c) < s.base ^ length xs
