@@ -22,13 +22,17 @@ use Rattle.play.specs.declared.fault.Event.{Event}
 use Rattle.play.specs.declared.fault.Event.TheVariants.{Loaded, Began, Ran, Rang, Ended}
 use Rattle.play.specs.Numbers.{refusal_number}
 
+-- Eight registers from i on.
+abbrev pub row_of : List ℕ → ℕ → Piece
+row_of rs i = Row (slice_range rs i (i + 8))
+
 -- A line of registers: R, the number of the first in octal, and eight.
 abbrev pub row_line : ℕ → List ℕ → List Piece
 row_line n row = Byte 82 ∷ Octal2 (8 * n) ∷ Row row ∷ Byte 10 ∷ []
 
 -- There are eight such lines.
 abbrev pub register_line : List ℕ → ℕ → List Piece
-register_line rs n = row_line n (slice_range rs (8 * n) (8 * n + 8))
+register_line rs n = Byte 82 ∷ Octal2 (8 * n) ∷ row_of rs (8 * n) ∷ Byte 10 ∷ []
 
 -- EN, the pointers ARP and DRP in octal, E and the status in hexadecimal.
 abbrev pub end_line : ReadOut → List Piece
