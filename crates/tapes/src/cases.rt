@@ -8,7 +8,7 @@ pub const UNKNOWN_MARK: Case = ("an unknown mark", b"XY");
 pub const LOAD_OF_NO_BYTES: Case = ("a load of no bytes", b"LD\x00\x01\x00");
 
 // Records taken and refused.
-pub const RECORDS: [Case; 18] = [
+pub const RECORDS: [Case; 19] = [
     ("an empty tape", b""),
     ("half a mark", b"L"),
     UNKNOWN_MARK,
@@ -33,6 +33,10 @@ pub const RECORDS: [Case; 18] = [
     ("a byte after EN", b"GO\x34\x12\x78\x56EN\x00"),
     ("a record after EN", b"GO\x34\x12\x78\x56ENEN"),
     ("an unknown mark after EN", b"GO\x34\x12\x78\x56ENXY"),
+    (
+        "three loads, GO and EN",
+        b"LD\x08\x00\x02\x00\x02LD\x00\x01\x05f\xA9\x34\x12\x89LD\x00\x02\x01\x9EGO\x00\x01\x00\x04EN",
+    ),
 ];
 
 // Runs and rings: why a run stops, how a visit ends, and why a ring is refused. The machine code stands in the loads: the
