@@ -43,6 +43,20 @@ fn each_cause(rt: HostRuntime) -> Result<(), Fail> {
     at_each_depth(&rt, shadow, 512, Ok(7), Cause::OutsideShadow)
 }
 
+// No layer keeps the last byte from being read, nor gives one past it.
+#[test]
+fn unreadable(rt: HostRuntime) -> Result<(), Fail> {
+    let mut pile = Pile::new(ram(&rt, 0, 600, 7)?);
+    for layers in 0..300u16 {
+        let refusal = refused(Cause::NoByte, layers.min(255) as u8);
+        for (address, read) in [(600, Err(refusal)), (599, Ok(7))] {
+            same(&rt, (layers, address), pile.read(address), read);
+        }
+        pile = pile.guarded(rt.alloc(), 1, 0)?;
+    }
+    Ok(())
+}
+
 #[test]
 fn numbers(rt: HostRuntime) {
     for (cause, number) in [

@@ -21,6 +21,26 @@ const ENDS: [(u16, &[(u16, u8)], &[u16]); 5] = [
     (65535, &[(65535, b'0')], &[65534, 0, 1, 14]),
 ];
 
+const NO_BYTE: BusRefusal = BusRefusal {
+    cause: Cause::NoByte,
+    depth: 0,
+};
+
+// What is stored in ten fives from 65,530 on, and what is read of them then.
+const STORED_AT_THE_TOP: [(u16, u8, Result<(), BusRefusal>); 3] = [
+    (65529, 1, Err(NO_BYTE)),
+    (65530, 1, Ok(())),
+    (65535, 2, Ok(())),
+];
+
+const READ_AT_THE_TOP: [(u16, Result<u8, BusRefusal>); 5] = [
+    (65529, Err(NO_BYTE)),
+    (65530, Ok(1)),
+    (65531, Ok(5)),
+    (65535, Ok(2)),
+    (0, Err(NO_BYTE)),
+];
+
 fn at_the_ends<B: Bus>(
     rt: &impl Abort,
     bus: &mut B,
@@ -63,6 +83,39 @@ fn none_and_all(rt: HostRuntime) -> Result<(), Fail> {
     Ok(())
 }
 
+// RAM and ROM of two bytes.
+#[test]
+fn two_bytes(rt: HostRuntime) -> Result<(), Fail> {
+    let mut ram = ram(&rt, 0, 2, 5)?;
+    at_the_ends(&rt, &mut ram, &[(0, 5), (1, 5)], &[2, 65535], Ok(()));
+    let mut rom = Rom {
+        base: 100,
+        bytes: b"xy",
+    };
+    let rom_store = refused(Cause::RomStore, 0);
+    at_the_ends(
+        &rt,
+        &mut rom,
+        &[(100, b'x'), (101, b'y')],
+        &[99, 102],
+        Err(rom_store),
+    );
+    Ok(())
+}
+
+// What is stored at both ends leaves the bytes between.
+#[test]
+fn ram_at_the_top(rt: HostRuntime) -> Result<(), Fail> {
+    let mut ram = ram(&rt, 65530, 10, 5)?;
+    for (address, byte, store) in STORED_AT_THE_TOP {
+        same(&rt, ("store", address), ram.store(address, byte), store);
+    }
+    for (address, read) in READ_AT_THE_TOP {
+        same(&rt, ("read", address), ram.read(address), read);
+    }
+    Ok(())
+}
+
 // Ten bytes from 65,530 on, of which four are not reached: a load goes in whole or not at all.
 #[test]
 fn loads(rt: HostRuntime) -> Result<(), Fail> {
@@ -87,7 +140,13 @@ fn trunks(rt: HostRuntime) {
         board.rewrite(15, Trunk::from(0xF1)),
         Some(Trunk::from(0)),
     );
-    same(&rt, "read", board.read(32783), Ok(0xF1));
+    for (address, read) in [
+        (32783, Ok(0xF1)),
+        (32784, Err(NO_BYTE)),
+        (32767, Err(NO_BYTE)),
+    ] {
+        same(&rt, ("read", address), board.read(address), read);
+    }
     same(&rt, "no trunk", board.trunk(16), None);
     same(
         &rt,

@@ -1,5 +1,5 @@
 // Three layers, of every kind over every kind, over RAM, ROM and the line board.
-use crate::buses::{check, refused};
+use crate::buses::{check, ram, refused};
 use crate::same;
 use bus::{Bus, BusRefusal, Cause, LineBoard, Ram, Rom, Trunk};
 use layers::{Guard, Shadow, Split};
@@ -164,5 +164,76 @@ fn by_types(rt: HostRuntime) -> Result<(), Fail> {
     }
     let ram = bus.below.low.into_below();
     same(&rt, 506, ram.read(506), Ok(b'2'));
+    Ok(())
+}
+
+const LOCKED: BusRefusal = BusRefusal {
+    cause: Cause::Guarded,
+    depth: 0,
+};
+
+const OUTSIDE: BusRefusal = BusRefusal {
+    cause: Cause::OutsideShadow,
+    depth: 2,
+};
+
+const PAST_RAM: BusRefusal = BusRefusal {
+    cause: Cause::NoByte,
+    depth: 3,
+};
+
+const IN_ROM: BusRefusal = BusRefusal {
+    cause: Cause::RomStore,
+    depth: 2,
+};
+
+const PAST_ROM: BusRefusal = BusRefusal {
+    cause: Cause::NoByte,
+    depth: 2,
+};
+
+// What a store of 1 gets.
+const STORED: [(u16, Result<(), BusRefusal>); 7] = [
+    (261, Ok(())),
+    (256, Err(LOCKED)),
+    (260, Err(LOCKED)),
+    (0, Err(OUTSIDE)),
+    (300, Err(PAST_RAM)),
+    (1024, Err(IN_ROM)),
+    (1027, Err(PAST_ROM)),
+];
+
+// What is read after these stores.
+const READ: [(u16, Result<u8, BusRefusal>); 6] = [
+    (261, Ok(1)),
+    (262, Ok(9)),
+    (1025, Ok(b'o')),
+    (260, Ok(9)),
+    (300, Err(PAST_RAM)),
+    (65535, Err(PAST_ROM)),
+];
+
+// The same kinds, over 300 nines of RAM, of which those from 256 on are shadowed; from 1,024 on ROM; 256 to 260 locked.
+#[test]
+fn by_types_over_more(rt: HostRuntime) -> Result<(), Fail> {
+    let low = Shadow::new(1, ram(&rt, 0, 300, 9)?);
+    let high = Rom {
+        base: 1024,
+        bytes: b"rom",
+    };
+    let at = 1024;
+    let mut bus = Guard {
+        first: 256,
+        last: 260,
+        below: Split { at, low, high },
+    };
+    for (address, store) in STORED {
+        same(&rt, ("store", address), bus.store(address, 1), store);
+    }
+    for (address, read) in READ {
+        same(&rt, ("read", address), bus.read(address), read);
+    }
+    let ram = bus.below.low.into_below();
+    same(&rt, "below", ram.read(261), Ok(9));
     Ok(())
 }
